@@ -6,11 +6,13 @@ use Rattle.profile_rows.specs.declared.weighted_stacks.WeightedStack.{WeightedSt
 use Rattle.folded_text.specs.declared.folded.FoldedFault.{FoldedFault}
 use Rattle.folded_text.specs.declared.folded.FoldedFault.TheVariants.{NotUtf8, NoCount, Count, Depth, Heavy, NoMemory}
 use Rattle.profile_rows.specs.Rows.{total_of}
-use Rattle.folded_text.specs.FoldedText.{AreRowLines, IsRowLine, IsFoldedBatch, IsLineFault, IsFirstFault}
+use Rattle.folded_text.specs.FoldedText.{AreRowLines, IsRowLine, IsFoldedBatch, IsLineFault, IsFirstFault, IsWorkFault}
+use Rattle.folded_text.specs.FoldedText.{GivesBatch, GivesOfRows, GivesOfText, IsOfText}
 use Rattle.profile_rows.specs.Values.{BatchState}
 use Rattle.folded_text.proofs.Counts.{HasCount-same}
 use Rattle.folded_text.proofs.Cuts.{cuts}
-use Rattle.folded_text.proofs.Reading.{AreRowLines-same, IsFirstFault-folded, faultless, faultless_at}
+use Rattle.folded_text.proofs.Reading.{AreRowLines-same, IsFirstFault-folded, IsFoldedText-same}
+use Rattle.folded_text.proofs.Reading.{IsWorkFault-folded, faultless, faultless_at}
 
 -- A line has one fault: each case of a fault says that those of the cases before it don't stand.
 abbrev IsOneFault : FoldedFault → FoldedFault → Type 0
@@ -71,15 +73,38 @@ IsFirstFault-same text fault other (before, line, after, rows, cut, known, fits,
           (length before + 1) fault (subst (λ ls. AreRowLines ls rows_b) within.1 known_b) fits_b known some there)
     ]
 
--- what reading answers to a text with a first fault
-pub only_fault : (text : List ℕ) (outcome : Result BatchState FoldedFault)
-    → MatchResult outcome (λ batch. IsFoldedBatch text batch) (λ fault. IsFirstFault text fault)
-    → (first : FoldedFault) → first ≢ NoMemory
-    → IsFirstFault text first → MatchResult outcome (λ batch. ⊥) (λ fault. (fault ≡ NoMemory) ⊎ (fault ≡ first))
-only_fault text (Ok batch) (rows, read, is) first some there = some (IsFirstFault-folded text rows first read there)
-only_fault text (Err fault) read first some there =
-    elim (IsFirstFault-same text fault first read there) [
+-- how work on the rows of a text with a first fault ends
+work_fault : (text : List ℕ) (fault first : FoldedFault) → IsWorkFault text fault
+    → first ≢ NoMemory → IsFirstFault text first → (fault ≡ NoMemory) ⊎ (fault ≡ first)
+work_fault text fault first (inr late) some there = inl late.0
+work_fault text fault first (inl own) some there =
+    elim (IsFirstFault-same text fault first own there) [
       | inl none ↦ inl none
       | inr (inl none) ↦ absurd (some none)
       | inr (inr same) ↦ inr same
     ]
+
+-- what is made of one reading of a text decides what else is answered
+gives_of_text : {T : Type 0} (text : List ℕ) (IsFault : FoldedFault → Type 0)
+    (Fits : List WeightedStack → T → Type 0) → ((fault : FoldedFault) → IsFault fault → IsWorkFault text fault)
+    → (result : Result T FoldedFault) → MatchResult result (IsOfText text Fits) IsFault
+    → GivesOfText text IsFault Fits result
+gives_of_text text IsFault Fits work (Ok made) (rows, folded, fits) = record {
+  read = (rows, folded, fits);
+  accepted = λ others also. subst (λ r. Fits r made) (IsFoldedText-same text rows others folded also) fits;
+  every_fault = λ first some there. some (IsFirstFault-folded text rows first folded there);
+}
+gives_of_text text IsFault Fits work (Err fault) read = record {
+  read = read;
+  accepted = λ rows folded. IsWorkFault-folded text rows fault folded (work fault read);
+  every_fault = λ first some there. work_fault text fault first (work fault read) some there;
+}
+
+pub gives_batch : (text : List ℕ) (result : Result BatchState FoldedFault)
+    → MatchResult result (IsFoldedBatch text) (IsFirstFault text) → GivesBatch text result
+gives_batch text = gives_of_text text (IsFirstFault text) _ (λ fault first. inl first)
+
+pub gives_of_rows : {T : Type 0} (text : List ℕ) (Fits : List WeightedStack → T → Type 0)
+    (result : Result T FoldedFault)
+    → MatchResult result (IsOfText text Fits) (IsWorkFault text) → GivesOfRows text Fits result
+gives_of_rows text Fits = gives_of_text text (IsWorkFault text) Fits (λ fault work. work)

@@ -8,7 +8,6 @@ pub mod Fronts
 pub mod KeptTexts
 pub mod Lines
 pub mod MergedLines
-pub mod OrderedTexts
 pub mod Pieces
 pub mod Reading
 pub mod StackOrder

@@ -1,21 +1,19 @@
 -- What a text is folded text of.
 use Rattle.std.proofs.lemmas.Grind.{common_steps}
 use Rattle.std.proofs.Common.{◌≡◌, ◌≢◌, ℕ, ◌+◌, ◌^◌, ◌<◌, ◌≤◌, List, [], ◌∷◌, ◌++◌, length, map, refl, sym, ap, ◌∙◌}
-use Rattle.std.proofs.Common.{arith, subst, length-append, drop}
+use Rattle.std.proofs.Common.{arith, subst, length-append, drop, inl, inr}
 use Rattle.std.proofs.lemmas.List.{nil_from_length}
 use Rattle.std.proofs.lemmas.List.Sums.{sum_by-cons, sum_by-append, sum_by_push}
 use Rattle.std.proofs.lemmas.List.Elements.{All-drop, All-head, All-same}
-use Rattle.std.specs.Str.{IsUtf8}
 use Rattle.std.specs.Str.Lines.{lines}
 use Rattle.std.specs.Str.Parse.{digits_value}
 use Rattle.profile_rows.specs.declared.weighted_stacks.WeightedStack.{WeightedStack}
 use Rattle.folded_text.specs.declared.folded.FoldedFault.{FoldedFault}
 use Rattle.folded_text.specs.declared.folded.FoldedFault.TheVariants.{NotUtf8, NoCount, Count, Depth, Heavy, NoMemory}
 use Rattle.profile_rows.specs.Rows.{total_of}
-use Rattle.folded_text.specs.FoldedText.{HasCount, IsRowLine, AreRowLines, IsFoldedText, IsLineFault, IsFirstFault}
-use Rattle.folded_text.specs.FoldedText.{IsFittingFault, IsFoldedBatch, frames_of}
-use Rattle.profile_rows.specs.Values.{BatchState, single_batch}
-use Rattle.std.specs.Prelude.{Result, Ok, Err, MatchResult, All}
+use Rattle.folded_text.specs.FoldedText.{HasCount, HasWeight, IsRowLine, AreRowLines, IsFoldedText, IsLineFault}
+use Rattle.folded_text.specs.FoldedText.{IsFirstFault, IsFittingFault, IsWorkFault, frames_of}
+use Rattle.std.specs.Prelude.{All}
 use Rattle.std.specs.declared.iter.Enumerate.{Enumerate}
 use Rattle.bstr.specs.Text.{lines_of, without_terminator}
 use Rattle.folded_text.proofs.Counts.{HasCount-same}
@@ -113,26 +111,26 @@ IsFirstFault-folded text rows fault folded (before, line, after, front, cut, kno
     faultless_at before line after front rows (length before + 1) fault
     (subst (λ ls. AreRowLines ls rows) cut folded.rows_lines) folded.total_fits known some there
 
+-- nor does work on its rows end by another
+pub IsWorkFault-folded : (text : List ℕ) (rows : List WeightedStack) (fault : FoldedFault)
+    → IsFoldedText text rows → IsWorkFault text fault → fault ≡ NoMemory
+IsWorkFault-folded text rows fault folded (inl first) = IsFirstFault-folded text rows fault folded first
+IsWorkFault-folded text rows fault folded (inr late) = late.0
+
 -- one text has one list of rows
 pub IsFoldedText-same : (text : List ℕ) (rows others : List WeightedStack)
     → IsFoldedText text rows → IsFoldedText text others → rows ≡ others
 IsFoldedText-same text rows others one other = AreRowLines-same (lines text) rows others one.rows_lines other.rows_lines
 
--- what reading answers decides what a text is folded text of
-pub only_answer : (text : List ℕ) (outcome : Result BatchState FoldedFault)
-    → MatchResult outcome (λ batch. IsFoldedBatch text batch) (λ fault. IsFirstFault text fault)
-    → (rows : List WeightedStack)
-    → IsFoldedText text rows → MatchResult outcome (λ batch. batch ≡ single_batch rows) (λ fault. fault ≡ NoMemory)
-only_answer text (Ok batch) (found, read, is) rows folded =
-    is ∙ ap single_batch (IsFoldedText-same text found rows read folded)
-only_answer text (Err fault) read rows folded = IsFirstFault-folded text rows fault folded read
-
 -- the row of a line that was read
-pub IsRowLine-read : (line stack digits : List ℕ) (weight : ℕ)
-    → IsUtf8 line → HasCount line stack digits → weight ≡ digits_value 10 digits
-    → length (frames_of stack) ≤ 65535
-    → weight < 2 ^ 63 → IsRowLine line (record { stack = frames_of stack; weight = weight })
-IsRowLine-read line stack digits weight utf8 count value depth fits = grind (arith, common_steps)
+pub IsRowLine-read : (line stack : List ℕ) (weight : ℕ) → HasWeight line stack weight
+    → length (frames_of stack) ≤ 65535 → IsRowLine line (record { stack = frames_of stack; weight = weight })
+IsRowLine-read line stack weight this depth = record {
+  utf8 = this.utf8;
+  counted = (stack, this.digits, record { count = this.count; frames = refl; weight = this.value });
+  depth = depth;
+  fits = this.small;
+}
 
 -- the stack text of a line holds no line feed either
 pub text_one_line : (line text digits : List ℕ)
@@ -184,29 +182,28 @@ IsReadTo-one_line text rest count rows line next so_far e =
     (All-drop (All (λ byte. byte ≢ 10)) (length so_far.before) (lines text) (lines-one_line text)))
 
 -- a line whose stack text and weight don't fit has that fault
-pub IsLineFault-fitting : (earlier number : ℕ) (line text digits : List ℕ) (weight : ℕ) (fault : FoldedFault)
-    → IsUtf8 line → weight < 2 ^ 63 → HasCount line text digits → weight ≡ digits_value 10 digits
-    → IsFittingFault earlier number text weight fault → IsLineFault earlier number line fault
-IsLineFault-fitting earlier number line text digits weight (NotUtf8 at) utf8 small count value h = absurd h
-IsLineFault-fitting earlier number line text digits weight (NoCount at) utf8 small count value h = absurd h
-IsLineFault-fitting earlier number line text digits weight (Count at) utf8 small count value h = absurd h
-IsLineFault-fitting earlier number line text digits weight (Depth at) utf8 small count value h =
-    (h.0, utf8, text, digits, count, omega (arith, value, small), h.1)
-IsLineFault-fitting earlier number line text digits weight (Heavy at) utf8 small count value h = (
+pub IsLineFault-fitting : (earlier number : ℕ) (line text : List ℕ) (depth weight : ℕ) (fault : FoldedFault)
+    → HasWeight line text weight → depth ≡ length (frames_of text)
+    → IsFittingFault earlier number depth weight fault → IsLineFault earlier number line fault
+IsLineFault-fitting earlier number line text depth weight (NotUtf8 at) this frames h = absurd h
+IsLineFault-fitting earlier number line text depth weight (NoCount at) this frames h = absurd h
+IsLineFault-fitting earlier number line text depth weight (Count at) this frames h = absurd h
+IsLineFault-fitting earlier number line text depth weight (Depth at) this frames h =
+    (h.0, this.utf8, text, this.digits, this.count, omega (arith, this.value, this.small), omega (arith, frames, h.1))
+IsLineFault-fitting earlier number line text depth weight (Heavy at) this frames h = (
   h.0,
   record { stack = frames_of text; weight = weight },
-  IsRowLine-read line text digits weight utf8 count value h.1 small,
+  IsRowLine-read line text weight this (omega (arith, frames, h.1)),
   h.2,
 )
-IsLineFault-fitting earlier number line text digits weight NoMemory utf8 small count value h = absurd h
+IsLineFault-fitting earlier number line text depth weight NoMemory this frames h = absurd h
 
 -- where memory runs out the line spells a row that can follow
-pub IsLineFault-memory : (earlier number : ℕ) (line text digits : List ℕ) (depth weight : ℕ)
-    → IsUtf8 line → earlier + weight < 2 ^ 63 → HasCount line text digits
-    → weight ≡ digits_value 10 digits
-    → depth ≡ length (frames_of text) → depth ≤ 65535 → IsLineFault earlier number line NoMemory
-IsLineFault-memory earlier number line text digits depth weight utf8 fits count value frames most = (
+pub IsLineFault-memory : (earlier number : ℕ) (line text : List ℕ) (depth weight : ℕ)
+    → HasWeight line text weight → depth ≡ length (frames_of text) → depth ≤ 65535
+    → earlier + weight < 2 ^ 63 → IsLineFault earlier number line NoMemory
+IsLineFault-memory earlier number line text depth weight this frames most fits = (
   record { stack = frames_of text; weight = weight },
-  IsRowLine-read line text digits weight utf8 count value (omega arith) (omega arith),
-  omega arith,
+  IsRowLine-read line text weight this (omega arith),
+  fits,
 )

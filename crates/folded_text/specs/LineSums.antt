@@ -1,6 +1,6 @@
 -- Rows of text that comes in pieces.
-use Rattle.std.specs.Prelude.{ℕ, ◌≡◌, ◌+◌, ◌^◌, ◌<◌, ◌∷◌, ◌++◌, [], All, List, MatchOption, Option, String, length, map}
-use Rattle.std.specs.Prelude.{string_bytes}
+use Rattle.std.specs.Prelude.{ℕ, ◌≡◌, ◌≢◌, ◌+◌, ◌^◌, ◌<◌, ◌≤◌, ◌∷◌, ◌++◌, [], All, List, MatchOption, Option, String}
+use Rattle.std.specs.Prelude.{drop, length, map, string_bytes}
 use Rattle.std.specs.Str.Lines.{lines}
 use Rattle.profile_rows.specs.declared.weighted_stacks.WeightedStack.{WeightedStack}
 use Rattle.profile_rows.specs.Merging.{AreMergedSoFar}
@@ -22,6 +22,13 @@ pub record AreKeptTexts (rows : List TextState) (total : ℕ) : Type 0 where
   pub spelled : All (λ (row : TextState). IsStackText row.text) rows
   pub total_is : total ≡ total_of (spelled_rows rows)
   pub fits : total < 2 ^ 63
+
+-- a text's first line, without its end, and how many bytes it has with it
+pub record IsFirstLine (text line : List ℕ) (size : ℕ) : Type 0 where
+  pub lines_are : lines text ≡ line ∷ lines (drop size text)
+  pub one_line : All (λ (byte : ℕ). byte ≢ 10) line
+  pub some : 0 < size
+  pub within : size ≤ length text
 
 -- the first line of what is left of a text has this fault after rows of the weight `earlier`
 abbrev pub StopsAt : List ℕ → ℕ → ℕ → FoldedFault → Type 0

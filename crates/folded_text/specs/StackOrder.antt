@@ -39,3 +39,8 @@ number_of high (digit ∷ digits) = number_of (high * 512 + digit) digits
 -- the first seven bytes of a text as one number
 abbrev pub front_of : List ℕ → ℕ
 front_of text = number_of 0 (digits_of 7 text)
+
+-- the number is that of a text's first bytes, which are digits
+pub record IsFront (text : List ℕ) (front : ℕ) : Type 0 where
+  pub front_is : front ≡ front_of text
+  pub digits : AreDigits (digits_of 7 text)

@@ -1,13 +1,16 @@
 -- Rows whose stacks are known by their texts.
-use Rattle.std.specs.Prelude.{ℕ, ◌≡◌, ◌≢◌, ◌<◌, ◌≤◌, ◌^◌, All, Bool, true, length, List}
+use Rattle.std.specs.Prelude.{ℕ, ◌≡◌, ◌≢◌, ◌+◌, ◌<◌, ◌≤◌, ◌^◌, All, Bool, true, length, List}
 use Rattle.std.specs.Prelude.{map, sum_by, if◌then◌else◌}
 use Rattle.std.specs.Str.{bytes_eq}
 use Rattle.std.specs.declared.cmp.Ordering.{Ordering}
 use Rattle.profile_rows.specs.declared.weighted_stacks.WeightedStack.{WeightedStack}
 use Rattle.profile_rows.specs.Aggregate.{aggregate_of}
+use Rattle.profile_rows.specs.Merging.{AddsRow, with_added_at}
 use Rattle.profile_rows.specs.Rows.{total_of}
 use Rattle.profile_rows.specs.StackTexts.{TextState}
-use Rattle.folded_text.specs.FoldedText.{IsFoldedText, frames_of}
+use Rattle.folded_text.specs.declared.folded.FoldedFault.{FoldedFault}
+use Rattle.folded_text.specs.declared.folded.FoldedFault.TheVariants.{Heavy}
+use Rattle.folded_text.specs.FoldedText.{IsRowLine, frames_of}
 use Rattle.folded_text.specs.StackOrder.{IsJoined, stack_text_cmp}
 
 -- the row that a stack text and a weight spell
@@ -24,6 +27,16 @@ rows_with text rows = sum_by (λ (row : TextState). if bytes_eq text row.text th
 -- the text of a stack that a row can have, as it stands in a line
 abbrev pub IsStackText : List ℕ → Type 0
 IsStackText text = (length (frames_of text) ≤ 65535) × All (λ (byte : ℕ). byte ≢ 10) text
+
+-- so many frames of so many bytes together has a stack text
+pub record IsMeasured (text : List ℕ) (count size : ℕ) : Type 0 where
+  pub depth : count ≡ length (frames_of text)
+  pub bytes : size ≡ sum_by length (frames_of text)
+
+-- rows whose stack texts can stand in a line, within the limit of 2^63 - 1 together
+pub record AreWithinLimits (rows : List TextState) : Type 0 where
+  pub spelled : All (λ (row : TextState). IsStackText row.text) rows
+  pub fits : total_of (spelled_rows rows) < 2 ^ 63
 
 -- rows in the order of their texts
 abbrev pub by_text : TextState → TextState → Ordering
@@ -52,8 +65,20 @@ pub record AreKnownTexts (texts : List (List ℕ)) (rows : List TextState) (tota
   pub total_is : total ≡ total_of (spelled_rows rows)
   pub fits : total < 2 ^ 63
 
--- the rows add up to what the text is folded text of
-pub record AreSumsOfText (text : List ℕ) (sums : List TextState) : Type 0 where
-  pub rows : List WeightedStack
-  pub folded : IsFoldedText text rows
-  pub same : aggregate_of (spelled_rows sums) ≡ aggregate_of rows
+-- the rows add up to these
+abbrev pub AddUpTo : List WeightedStack → List TextState → Type 0
+AddUpTo rows sums = aggregate_of (spelled_rows sums) ≡ aggregate_of rows
+
+-- the line spells a row, which was added
+abbrev pub AddsLine : List ℕ → List TextState → List TextState → Type 0
+AddsLine line old new = (row : WeightedStack) × IsRowLine line row
+    × AddsRow (spelled_rows old) (spelled_rows new) row
+
+-- the row at an index weighs more, and all rows are within the limit
+pub record WeighsMoreAt (at weight : ℕ) (old new : List TextState) : Type 0 where
+  pub added : spelled_rows new ≡ with_added_at (spelled_rows old) at weight
+  pub fits : total_of (spelled_rows old) + weight < 2 ^ 63
+
+-- rows that would pass the limit
+abbrev pub IsTooHeavy : ℕ → ℕ → FoldedFault → Type 0
+IsTooHeavy number total fault = (fault ≡ Heavy number) × (2 ^ 63 ≤ total)

@@ -1,14 +1,10 @@
 //! Folded text read: a line is cut, tested against the limits, and becomes a row.
 
-ghost use Rattle.std.specs.Prelude.{ℕ, ◌≡◌, ◌≢◌, ◌⊎◌, ◌+◌, ◌^◌, ◌<◌, ◌≤◌, ◌↔◌, ◌∷◌, ◌++◌, [], All, IfErr, IfOk, IsTrue, List, MatchOption, MatchResult, OnOk, length, map};
-ghost use Rattle.std.specs.Str.{IsUtf8};
+ghost use Rattle.std.specs.Prelude.{ℕ, ◌≡◌, ◌≢◌, ◌+◌, ◌^◌, ◌<◌, ◌≤◌, ◌↔◌, ◌∷◌, ◌++◌, [], All, IsTrue, List, MatchOption, MatchResult, OnOk, length, map};
 ghost use Rattle.std.specs.Str.Parse.{IsNumeral, digits_value};
-ghost use Rattle.profile_rows.specs.declared.weighted_stacks.WeightedStack.{WeightedStack};
-ghost use Rattle.folded_text.specs.declared.folded.FoldedFault.{FoldedFault};
-ghost use Rattle.folded_text.specs.FoldedText.{HasCount, IsFirstFault, IsFoldedBatch, IsFoldedText, IsFittingFault, IsLineFault, IsRowLine, IsCountFault, frames_of};
+ghost use Rattle.folded_text.specs.FoldedText.{GivesBatch, HasCount, HasWeight, IsCountFault, IsFittingFault, IsLineFault, IsRowAfter};
 ghost use Rattle.profile_rows.specs.Names.{IsName};
 ghost use Rattle.profile_rows.specs.Rows.{total_of};
-ghost use Rattle.profile_rows.specs.Values.{single_batch};
 
 use crate::stack_frames::{measured, replace_by_text};
 use crate::taking::{LineTaker, take_lines};
@@ -88,9 +84,7 @@ pub(crate) fn stack_and_weight<'a>(
     line: &'a [u8],
     number: u64,
 ) -> Result<(&'a str, u64), FoldedFault>
-    ensures counted { IfOk result (λ found. IsUtf8 line.now × (found.1 < 2 ^ 63)
-        × (digits : List ℕ) × HasCount line.now found.0.now digits × (found.1 ≡ digits_value 10 digits)) }
-    ensures fault { IfErr result (IsCountFault number line.now) }
+    ensures { MatchResult result (λ found. HasWeight line.now found.0.now found.1) (IsCountFault number line.now) }
 {
     let text = basic::from_utf8(line).map_err(|_| FoldedFault::NotUtf8 { line: number })?;
     let (stack, digits) = split_count(text).ok_or(FoldedFault::NoCount { line: number })?;
@@ -106,10 +100,8 @@ pub(crate) fn fitting(
     number: u64,
 ) -> Result<(), FoldedFault>
     requires { earlier < 2 ^ 63 }
-    ensures fits { OnOk result ((depth ≤ MAX_DEPTH) × (earlier + weight < 2 ^ 63)) }
-    ensures fault { IfErr result
-        (λ fault. (text : List ℕ) → depth ≡ length (frames_of text)
-        → IsFittingFault earlier number text weight fault) }
+    ensures { MatchResult result (λ done. (depth ≤ MAX_DEPTH) × (earlier + weight < 2 ^ 63))
+        (IsFittingFault earlier number depth weight) }
 {
     if depth > MAX_DEPTH {
         return Err(FoldedFault::Depth { line: number });
@@ -134,10 +126,9 @@ pub fn read_frames<'a>(
 ) -> Result<u64, FoldedFault>
     requires one_line { All (λ byte. byte ≢ 10) line.now }
     requires earlier { earlier < 2 ^ 63 }
-    ensures spelled { IfOk result (λ weight. (earlier + weight < 2 ^ 63)
-        × IsRowLine line.now (record { stack = map (λ frame. frame.now) frames.new.items; weight = weight })) }
-    ensures names { OnOk result (All IsName (map (λ frame. frame.now) frames.new.items)) }
-    ensures fault { IfErr result (IsLineFault earlier number line.now) }
+    ensures { MatchResult result (λ weight. IsRowAfter earlier line.now
+        (record { stack = map (λ frame. frame.now) frames.new.items; weight = weight }))
+        (IsLineFault earlier number line.now) }
 {
     let (stack, weight) = stack_and_weight(line, number)?;
     let Ok(()) = replace_by_text(frames, stack) else {
@@ -201,12 +192,7 @@ impl<'a> LineTaker<'a> for Reading<'a> {
 ///
 /// The fault of the first line that has one, in the order of [`FoldedFault`]'s variants; `NoMemory`.
 pub fn read_folded(alloc: Global, text: &[u8]) -> Result<Batch, FoldedFault>
-    ensures read { MatchResult result (λ batch. IsFoldedBatch text.now batch)
-        (λ fault. IsFirstFault text.now fault) }
-    ensures accepted { (rows : List WeightedStack) → IsFoldedText text.now rows
-        → MatchResult result (λ batch. batch ≡ single_batch rows) (λ fault. fault ≡ FoldedFault.NoMemory) }
-    ensures every_fault { (first : FoldedFault) → first ≢ FoldedFault.NoMemory → IsFirstFault text.now first
-        → MatchResult result (λ batch. ⊥) (λ fault. (fault ≡ FoldedFault.NoMemory) ⊎ (fault ≡ first)) }
+    ensures { GivesBatch text.now result }
 {
     read_folded_with(alloc, Hashing::fixed(), text)
 }
@@ -217,12 +203,7 @@ pub fn read_folded(alloc: Global, text: &[u8]) -> Result<Batch, FoldedFault>
 ///
 /// Those of [`read_folded`].
 pub fn read_folded_with(alloc: Global, hashing: Hashing, text: &[u8]) -> Result<Batch, FoldedFault>
-    ensures read { MatchResult result (λ batch. IsFoldedBatch text.now batch)
-        (λ fault. IsFirstFault text.now fault) }
-    ensures accepted { (rows : List WeightedStack) → IsFoldedText text.now rows
-        → MatchResult result (λ batch. batch ≡ single_batch rows) (λ fault. fault ≡ FoldedFault.NoMemory) }
-    ensures every_fault { (first : FoldedFault) → first ≢ FoldedFault.NoMemory → IsFirstFault text.now first
-        → MatchResult result (λ batch. ⊥) (λ fault. (fault ≡ FoldedFault.NoMemory) ⊎ (fault ≡ first)) }
+    ensures { GivesBatch text.now result }
 {
     let mut reading = Reading {
         alloc,

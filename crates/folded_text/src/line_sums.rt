@@ -1,15 +1,15 @@
 //! Folded text that comes in pieces, summed by its stack texts.
 
-ghost use Rattle.std.specs.Prelude.{◌≡◌, ◌≢◌, ◌∷◌, ◌+◌, ◌<◌, ◌≤◌, ◌^◌, [], All, IfErr, IfOk, MatchOption, OnErr, OnOk};
+ghost use Rattle.std.specs.Prelude.{◌≡◌, ◌≢◌, ◌+◌, ◌<◌, ◌≤◌, ◌^◌, [], All, IfOk, MatchOption, MatchResult, OnErr};
 ghost use Rattle.std.specs.Prelude.{◌==◌, drop, length};
-ghost use Rattle.std.specs.Str.Lines.{lines, strip_carriage_return};
-ghost use Rattle.profile_rows.specs.declared.weighted_stacks.WeightedStack.{WeightedStack};
+ghost use Rattle.std.specs.Str.Lines.{strip_carriage_return};
 ghost use Rattle.profile_rows.specs.Aggregate.{aggregate_of};
-ghost use Rattle.profile_rows.specs.Merging.{AddsRow, IsStackAt, with_added_at};
+ghost use Rattle.profile_rows.specs.Merging.{AddsRow, IsStackAt};
 ghost use Rattle.profile_rows.specs.Rows.{total_of};
-ghost use Rattle.folded_text.specs.FoldedText.{IsLineFault, IsRowLine, frames_of};
-ghost use Rattle.folded_text.specs.LineSums.{AreAddedLines};
-ghost use Rattle.folded_text.specs.TextRows.{IsStackText, rows_with, spelled_rows};
+ghost use Rattle.folded_text.specs.FoldedText.{IsLineFault, frames_of};
+ghost use Rattle.folded_text.specs.LineSums.{AreAddedLines, IsFirstLine};
+ghost use Rattle.folded_text.specs.TextRows.{AddsLine, AreWithinLimits, IsStackText, IsTooHeavy, WeighsMoreAt};
+ghost use Rattle.folded_text.specs.TextRows.{rows_with, spelled_rows};
 
 use crate::folded::{FoldedFault, fitting, stack_and_weight};
 use crate::merged::sorted_stacks;
@@ -66,10 +66,7 @@ fn without_return(line: &[u8]) -> &[u8]
 /// A text's first line, without its end, and how many bytes it has with it.
 fn first_line(text: &[u8]) -> (&[u8], usize)
     requires { 0 < length text.now }
-    ensures lines { lines text.now ≡ result.0.now ∷ lines (drop result.1 text.now) }
-    ensures one_line { All (λ byte. byte ≢ 10) result.0.now }
-    ensures some { 0 < result.1 }
-    ensures within { result.1 ≤ length text.now }
+    ensures { IsFirstLine text.now result.0.now result.1 }
 {
     match text.find_byte(b'\n') {
         Some(end) => (without_return(&text[..end]), end + 1),
@@ -114,10 +111,8 @@ impl LineSums {
     /// Adds to the weight of a row.
     fn add_to(&mut self, at: usize, weight: u64, number: u64) -> Result<(), FoldedFault>
         requires { at < length self.old }
-        ensures added { OnOk result (spelled_rows self.new ≡ with_added_at (spelled_rows self.old) at weight) }
-        ensures fits { OnOk result (total_of (spelled_rows self.old) + weight < 2 ^ 63) }
-        ensures fault { IfErr result
-            (λ fault. (fault ≡ FoldedFault.Heavy number) × (2 ^ 63 ≤ total_of (spelled_rows self.old) + weight)) }
+        ensures added { MatchResult result (λ done. WeighsMoreAt at weight self.old self.new)
+            (IsTooHeavy number (total_of (spelled_rows self.old) + weight)) }
         ensures kept { OnErr result (self.new ≡ self.old) }
     {
         if weight > MAX_TOTAL - self.total {
@@ -133,9 +128,8 @@ impl LineSums {
         requires new_text { rows_with text.now self.old ≡ 0 }
         requires spelled { IsStackText text.now }
         requires fits { total_of (spelled_rows self.old) + weight < 2 ^ 63 }
-        ensures added { OnOk result (AddsRow (spelled_rows self.old) (spelled_rows self.new)
-            (record { stack = frames_of text.now; weight = weight })) }
-        ensures kept { OnErr result (self.new ≡ self.old) }
+        ensures { MatchResult result (λ done. AddsRow (spelled_rows self.old) (spelled_rows self.new)
+            (record { stack = frames_of text.now; weight = weight })) (λ fault. self.new ≡ self.old) }
     {
         if weight == 0 {
             return Ok(());
@@ -150,9 +144,8 @@ impl LineSums {
     /// Adds the row that a line spells, to the row of the same stack text where there is one.
     fn add_line(&mut self, line: &[u8], number: u64) -> Result<(), FoldedFault>
         requires { All (λ byte. byte ≢ 10) line.now }
-        ensures added { OnOk result ((row : WeightedStack) × IsRowLine line.now row
-            × AddsRow (spelled_rows self.old) (spelled_rows self.new) row) }
-        ensures fault { IfErr result (IsLineFault (total_of (spelled_rows self.old)) number line.now) }
+        ensures added { MatchResult result (λ done. AddsLine line.now self.old self.new)
+            (IsLineFault (total_of (spelled_rows self.old)) number line.now) }
         ensures kept { OnErr result (self.new ≡ self.old) }
     {
         let (text, weight) = stack_and_weight(line, number)?;
@@ -188,8 +181,7 @@ impl LineSums {
     /// The rows, in the order in which their stack texts came.
     fn rows(&self) -> Result<Vec<TextRow>, NoMemory>
         ensures rows { IfOk result (λ rows. rows.items ≡ self.now) }
-        ensures spelled { All (λ row. IsStackText row.text) self.now }
-        ensures fits { total_of (spelled_rows self.now) < 2 ^ 63 }
+        ensures limits { AreWithinLimits self.now }
     {
         let mut rows = Vec::with_capacity(self.alloc, self.weights.len())?;
         for (text, weight) in self.weights.iter() {

@@ -1,12 +1,10 @@
 //! Folded text read into fewer rows than it has lines.
 
-ghost use Rattle.std.specs.Prelude.{◌≡◌, ◌^◌, ◌<◌, All, IfOk, List, MatchResult};
-ghost use Rattle.profile_rows.specs.declared.weighted_stacks.WeightedStack.{WeightedStack};
+ghost use Rattle.std.specs.Prelude.{◌≡◌, ◌^◌, ◌<◌, All, IfOk};
 ghost use Rattle.profile_rows.specs.Aggregate.{aggregate_of};
 ghost use Rattle.profile_rows.specs.Rows.{total_of};
-ghost use Rattle.folded_text.specs.FoldedText.{IsFoldedText, IsWorkFault};
+ghost use Rattle.folded_text.specs.FoldedText.{GivesOfRows};
 ghost use Rattle.folded_text.specs.TextRows.{IsStackText, spelled_rows};
-ghost use Rattle.folded_text.specs.TextSums.{AreMergedLines};
 
 use crate::folded::FoldedFault;
 use crate::text_row::TextRow;
@@ -42,10 +40,7 @@ pub fn merge_lines(
     hashing: Hashing,
     text: &[u8],
 ) -> Result<WeightedStacks, FoldedFault>
-    ensures read { MatchResult result (AreMergedLines text.now) (IsWorkFault text.now) }
-    ensures accepted { (rows : List WeightedStack) → IsFoldedText text.now rows
-        → MatchResult result (λ merged. aggregate_of merged ≡ aggregate_of rows)
-        (λ fault. fault ≡ FoldedFault.NoMemory) }
+    ensures { GivesOfRows text.now (λ rows merged. aggregate_of merged ≡ aggregate_of rows) result }
 {
     let sums = read_text_rows(alloc, hashing, text)?;
     let (rows, _total, _are_joined) = sums.into_rows();

@@ -1,6 +1,6 @@
 //! Rows in the order of their stacks, of which reports are made.
 
-ghost use Rattle.std.specs.Prelude.{◌≡◌, ◌^◌, ◌<◌, ◌≤◌, All, IfOk, List, MatchResult, OnOk, length, map};
+ghost use Rattle.std.specs.Prelude.{◌≡◌, ◌^◌, ◌<◌, ◌≤◌, All, IfOk, OnOk, length, map};
 ghost use Rattle.std.specs.Option.{option_copied};
 ghost use Rattle.profile_rows.specs.declared.weighted_stacks.WeightedStack.{WeightedStack};
 ghost use Rattle.profile_rows.specs.Aggregate.{AreWeighty, IsAscending, Weighted, aggregate_of, rows_of};
@@ -9,8 +9,8 @@ ghost use Rattle.profile_rows.specs.Names.{IsName};
 ghost use Rattle.profile_rows.specs.Rows.{kept_rows, total_of};
 ghost use Rattle.profile_rows.specs.StackTexts.{AreStackTexts};
 ghost use Rattle.profile_rows.specs.TopList.{AreTotalsOf};
-ghost use Rattle.folded_text.specs.FoldedText.{IsFoldedText, IsWorkFault, folded_text_of, rows_text};
-ghost use Rattle.folded_text.specs.OrderedRows.{IsOrderedText, rows_in};
+ghost use Rattle.folded_text.specs.FoldedText.{GivesOfRows, folded_text_of, rows_text};
+ghost use Rattle.folded_text.specs.OrderedRows.{AreInOrder, rows_in};
 ghost use Rattle.folded_text.specs.TextRows.{spelled_rows};
 
 use crate::folded::FoldedFault;
@@ -41,14 +41,13 @@ pub struct OrderedRows<'a> {
 impl<'a> Model for OrderedRows<'a> {
     ghost use Rattle.std.specs.Prelude.{List};
     ghost use Rattle.profile_rows.specs.declared.weighted_stacks.WeightedStack.{WeightedStack};
-    ghost use Rattle.profile_rows.specs.Aggregate.{AreWeighty, IsAscending};
-    ghost use Rattle.folded_text.specs.OrderedRows.{rows_in};
+    ghost use Rattle.folded_text.specs.OrderedRows.{AreInOrder, rows_in};
 
     ghost Value = { List WeightedStack };
 
     ghost view = { λ ordered. rows_in ordered.rows };
 
-    ghost invariant = { λ ordered. IsAscending (rows_in ordered.rows) × AreWeighty (rows_in ordered.rows) };
+    ghost invariant = { λ ordered. AreInOrder (rows_in ordered.rows) };
 }
 
 /// The rows in order that a focus and an ignored name leave.
@@ -96,10 +95,7 @@ pub fn read_ordered<'a>(
     hashing: Hashing,
     text: &'a [u8],
 ) -> Result<OrderedRows<'a>, FoldedFault>
-    ensures read { MatchResult result (IsOrderedText text.now) (IsWorkFault text.now) }
-    ensures accepted { (rows : List WeightedStack) → IsFoldedText text.now rows
-        → MatchResult result (λ ordered. ordered ≡ rows_of (aggregate_of rows))
-        (λ fault. fault ≡ FoldedFault.NoMemory) }
+    ensures { GivesOfRows text.now (λ rows ordered. ordered ≡ rows_of (aggregate_of rows)) result }
 {
     let sums = read_text_rows(alloc, hashing, text)?;
     Ok(in_order(alloc, hashing, sums)?)
@@ -141,10 +137,9 @@ impl<'a> OrderedRows<'a> {
         Ok(OrderedRows { rows })
     }
 
-    /// Does nothing; its clauses say that the rows are in order and that each weighs something.
+    /// Does nothing; its clause says that the rows are in order and that each weighs something.
     pub fn facts(&self)
-        ensures ascending { IsAscending self.now }
-        ensures weighty { AreWeighty self.now }
+        ensures { AreInOrder self.now }
     {
         let _ = &self.rows;
     }

@@ -1,8 +1,8 @@
 //! The frames of a stack text, one after the other.
 
-ghost use Rattle.std.specs.Prelude.{◌≡◌, ◌≢◌, ◌<◌, ◌++◌, ◌∷◌, [], All, MatchOption, OnOk, length, map, sum_by};
-ghost use Rattle.folded_text.specs.FoldedText.{frame_in, frames_of};
-ghost use Rattle.profile_rows.specs.Names.{IsName};
+ghost use Rattle.std.specs.Prelude.{◌≡◌, ◌≢◌, ◌<◌, ◌++◌, ◌∷◌, [], All, MatchOption, OnOk, length, map};
+ghost use Rattle.folded_text.specs.FoldedText.{AreFrames, frame_in, frames_of};
+ghost use Rattle.folded_text.specs.TextRows.{IsMeasured};
 
 use bstr::ByteSlice;
 use std::alloc::AllocError;
@@ -60,8 +60,7 @@ impl<'a> Frames<'a> {
 
 /// How many frames a stack text has, and how many bytes these have together.
 pub(crate) fn measured(text: &str) -> (usize, usize)
-    ensures depth { result.0 ≡ length (frames_of text.now) }
-    ensures bytes { result.1 ≡ sum_by length (frames_of text.now) }
+    ensures { IsMeasured text.now result.0 result.1 }
 {
     let mut depth = 0;
     let mut bytes = 0;
@@ -79,8 +78,7 @@ pub(crate) fn replace_by_text<'a>(
     text: &'a str,
 ) -> Result<(), AllocError>
     requires { All (λ byte. byte ≢ 10) text.now }
-    ensures names { OnOk result (All IsName (frames_of text.now)) }
-    ensures texts { OnOk result (map (λ frame. frame.now) frames.new.items ≡ frames_of text.now) }
+    ensures { OnOk result (AreFrames text.now (map (λ frame. frame.now) frames.new.items)) }
 {
     frames.clear();
     let mut rest = Frames::of(text);

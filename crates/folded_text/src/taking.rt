@@ -1,6 +1,6 @@
 //! The lines of a folded text, handed out one by one.
 
-ghost use Rattle.std.specs.Prelude.{◌≢◌, ◌+◌, ◌^◌, ◌<◌, ◌++◌, ◌∷◌, [], All, IfErr, List, OnOk};
+ghost use Rattle.std.specs.Prelude.{◌≢◌, ◌+◌, ◌^◌, ◌<◌, ◌++◌, ◌∷◌, [], All, List, MatchResult};
 ghost use Rattle.profile_rows.specs.declared.weighted_stacks.WeightedStack.{WeightedStack};
 ghost use Rattle.profile_rows.specs.Rows.{total_of};
 ghost use Rattle.folded_text.specs.FoldedText.{IsFirstFault, IsFoldedText, IsLineFault, IsRowLine};
@@ -21,11 +21,11 @@ pub trait LineTaker<'a> {
     fn take_line(&mut self, line: &'a [u8], number: u64) -> Result<(), FoldedFault>
         requires one_line { All (λ byte. byte ≢ 10) line.now }
         requires before { (rows : List WeightedStack) × is_of self.old rows × (total_of rows < 2 ^ 63) }
-        ensures taken { (rows : List WeightedStack) → is_of self.old rows → total_of rows < 2 ^ 63
-            → OnOk result ((row : WeightedStack) × IsRowLine line.now row × (total_of rows + row.weight < 2 ^ 63)
-            × is_of self.new (rows ++ row ∷ [])) }
-        ensures fault { (rows : List WeightedStack) → is_of self.old rows → total_of rows < 2 ^ 63
-            → IfErr result (IsLineFault (total_of rows) number line.now) };
+        ensures { (rows : List WeightedStack) → is_of self.old rows → total_of rows < 2 ^ 63
+            → MatchResult result
+            (λ done. (row : WeightedStack) × IsRowLine line.now row × (total_of rows + row.weight < 2 ^ 63)
+            × is_of self.new (rows ++ row ∷ []))
+            (IsLineFault (total_of rows) number line.now) };
 }
 
 /// Hands each line that isn't empty to what takes them, with its number, up to the first fault.
@@ -35,8 +35,9 @@ pub trait LineTaker<'a> {
 /// The fault of the first line that has one.
 pub fn take_lines<'a, T: LineTaker<'a>>(text: &'a [u8], taker: &mut T) -> Result<(), FoldedFault>
     requires { T.is_of taker.old [] }
-    ensures taken { OnOk result ((rows : List WeightedStack) × IsFoldedText text.now rows × T.is_of taker.new rows) }
-    ensures fault { IfErr result (IsFirstFault text.now) }
+    ensures { MatchResult result
+        (λ done. (rows : List WeightedStack) × IsFoldedText text.now rows × T.is_of taker.new rows)
+        (IsFirstFault text.now) }
 {
     for (index, line) in text.lines().enumerate() {
         if !line.is_empty() {

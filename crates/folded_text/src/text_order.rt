@@ -7,8 +7,7 @@ use std::cmp::Ordering;
 
 /// Where a byte of a stack text stands: the semicolon before each byte of a name.
 pub(crate) fn byte_rank(byte: u8) -> u16
-    ensures rank { result ≡ rank_of byte }
-    ensures small { result ≤ 256 }
+    ensures { result ≡ rank_of byte }
 {
     if byte == b';' { 0 } else { byte as u16 + 1 }
 }

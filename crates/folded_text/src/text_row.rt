@@ -1,7 +1,7 @@
 //! A row by the text of its stack.
 
 ghost use Rattle.std.specs.Prelude.{ℕ, ◌≡◌, ◌+◌, ◌<◌, ◌^◌, ◌∷◌, drop};
-ghost use Rattle.folded_text.specs.StackOrder.{AreDigits, digits_of, front_of};
+ghost use Rattle.folded_text.specs.StackOrder.{IsFront, digits_of};
 ghost use Rattle.folded_text.specs.TextRows.{by_text};
 
 use crate::text_order::{byte_rank, cmp_stack_texts};
@@ -18,15 +18,14 @@ pub(crate) struct TextRow<'a> {
 }
 
 impl<'a> Model for TextRow<'a> {
-    ghost use Rattle.std.specs.Prelude.{◌≡◌};
     ghost use Rattle.profile_rows.specs.StackTexts.{TextState};
-    ghost use Rattle.folded_text.specs.StackOrder.{AreDigits, digits_of, front_of};
+    ghost use Rattle.folded_text.specs.StackOrder.{IsFront};
 
     ghost Value = { TextState };
 
     ghost view = { λ row. record { text = row.text.now; weight = row.weight } };
 
-    ghost invariant = { λ row. (row.front ≡ front_of row.text.now) × AreDigits (digits_of 7 row.text.now) };
+    ghost invariant = { λ row. IsFront row.text.now row.front };
 }
 
 impl<'a> TextRow<'a> {
@@ -93,8 +92,7 @@ fn first_rank(text: &[u8]) -> (u64, &[u8])
 
 /// The first seven bytes of a text as one number.
 fn front_of(text: &str) -> u64
-    ensures front { result ≡ front_of text.now }
-    ensures digits { AreDigits (digits_of 7 text.now) }
+    ensures { IsFront text.now result }
 {
     let (first, after) = first_rank(text.as_bytes());
     let (second, after) = first_rank(after);

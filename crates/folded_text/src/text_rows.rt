@@ -1,14 +1,15 @@
 //! The rows of folded text by their stack texts: lines of one text are summed, and no name is made. So is its folded
 //! report.
 
-ghost use Rattle.std.specs.Prelude.{◌≡◌, ◌≢◌, ◌+◌, ◌^◌, ◌<◌, ◌≤◌, [], All, IfErr, IfOk};
-ghost use Rattle.std.specs.Prelude.{IsTrue, MatchOption, MatchResult, OnOk, length, sum_by};
-ghost use Rattle.profile_rows.specs.declared.weighted_stacks.WeightedStack.{WeightedStack};
-ghost use Rattle.profile_rows.specs.Merging.{AddsRow, AreMergedSoFar, IsStackAt, with_added_at};
+ghost use Rattle.std.specs.Prelude.{◌≡◌, ◌≢◌, ◌+◌, ◌^◌, ◌<◌, [], All, IfOk};
+ghost use Rattle.std.specs.Prelude.{IsTrue, MatchOption, MatchResult, OnOk, length};
+ghost use Rattle.profile_rows.specs.Merging.{AddsRow, AreMergedSoFar, IsStackAt};
 ghost use Rattle.profile_rows.specs.Rows.{total_of};
-ghost use Rattle.folded_text.specs.FoldedText.{IsFirstFault, IsLineFault, IsRowLine, frames_of};
+ghost use Rattle.folded_text.specs.FoldedText.{IsFirstFault, IsLineFault, IsOfText, frames_of};
+ghost use Rattle.folded_text.specs.LineSums.{AreKeptTexts};
 ghost use Rattle.folded_text.specs.StackOrder.{IsJoined};
-ghost use Rattle.folded_text.specs.TextRows.{AreSumsOfText, AreTextRows, IsStackText, rows_with, spelled_rows};
+ghost use Rattle.folded_text.specs.TextRows.{AddUpTo, AddsLine, AreTextRows, AreWithinLimits, IsMeasured, IsStackText};
+ghost use Rattle.folded_text.specs.TextRows.{IsTooHeavy, WeighsMoreAt, rows_with, spelled_rows};
 
 use crate::folded::{FoldedFault, fitting, push_frames, stack_and_weight};
 use crate::stack_frames::{measured, replace_by_text};
@@ -45,8 +46,7 @@ impl<'a> Model for TextRows<'a> {
 
 /// Whether a stack text is its frames, so many of so many bytes, with a semicolon between each two.
 fn is_joined(text: &str, depth: usize, bytes: usize) -> bool
-    requires depth { depth ≡ length (frames_of text.now) }
-    requires bytes { bytes ≡ sum_by length (frames_of text.now) }
+    requires { IsMeasured text.now depth bytes }
     ensures { IsTrue result → IsJoined text.now }
 {
     text.is_empty() || bytes + depth == text.len() + 1
@@ -68,8 +68,7 @@ impl<'a> TextRows<'a> {
     /// The rows.
     pub fn rows(&self) -> &[TextRow<'a>]
         ensures rows { result.now ≡ self.now }
-        ensures spelled { All (λ row. IsStackText row.text) self.now }
-        ensures fits { total_of (spelled_rows self.now) < 2 ^ 63 }
+        ensures limits { AreWithinLimits self.now }
     {
         self.rows.as_slice()
     }
@@ -82,9 +81,7 @@ impl<'a> TextRows<'a> {
     /// The rows, what they weigh together, and whether no stack text has an empty frame.
     pub fn into_rows(self) -> (Vec<TextRow<'a>>, u64, bool)
         ensures rows { result.0.items ≡ self.entry }
-        ensures spelled { All (λ row. IsStackText row.text) self.entry }
-        ensures total { result.1 ≡ total_of (spelled_rows self.entry) }
-        ensures fits { result.1 < 2 ^ 63 }
+        ensures kept { AreKeptTexts self.entry result.1 }
         ensures joined { IsTrue result.2 → AreTextRows self.entry }
     {
         (self.rows, self.total, self.are_joined)
@@ -102,10 +99,8 @@ impl<'a> TextRows<'a> {
     /// Adds to the weight of a row.
     fn add_to(&mut self, at: usize, weight: u64, number: u64) -> Result<(), FoldedFault>
         requires { at < length self.old }
-        ensures added { OnOk result (spelled_rows self.new ≡ with_added_at (spelled_rows self.old) at weight) }
-        ensures fits { OnOk result (total_of (spelled_rows self.old) + weight < 2 ^ 63) }
-        ensures fault { IfErr result
-            (λ fault. (fault ≡ FoldedFault.Heavy number) × (2 ^ 63 ≤ total_of (spelled_rows self.old) + weight)) }
+        ensures { MatchResult result (λ done. WeighsMoreAt at weight self.old self.new)
+            (IsTooHeavy number (total_of (spelled_rows self.old) + weight)) }
     {
         if weight > MAX_TOTAL - self.total {
             return Err(FoldedFault::Heavy { line: number });
@@ -140,9 +135,8 @@ impl<'a> TextRows<'a> {
     /// Adds the row that a line spells, to the row of the same stack text where there is one.
     pub fn sum_line(&mut self, line: &'a [u8], number: u64) -> Result<(), FoldedFault>
         requires { All (λ byte. byte ≢ 10) line.now }
-        ensures added { OnOk result ((row : WeightedStack) × IsRowLine line.now row
-            × AddsRow (spelled_rows self.old) (spelled_rows self.new) row) }
-        ensures fault { IfErr result (IsLineFault (total_of (spelled_rows self.old)) number line.now) }
+        ensures { MatchResult result (λ done. AddsLine line.now self.old self.new)
+            (IsLineFault (total_of (spelled_rows self.old)) number line.now) }
     {
         let (text, weight) = stack_and_weight(line, number)?;
         if let Some(at) = self.row_of(text) {
@@ -168,7 +162,7 @@ pub(crate) fn read_text_rows<'a>(
     hashing: Hashing,
     text: &'a [u8],
 ) -> Result<TextRows<'a>, FoldedFault>
-    ensures { MatchResult result (AreSumsOfText text.now) (IsFirstFault text.now) }
+    ensures { MatchResult result (IsOfText text.now AddUpTo) (IsFirstFault text.now) }
 {
     let mut sums = TextRows::new(alloc, hashing);
     take_lines(text, &mut sums)?;

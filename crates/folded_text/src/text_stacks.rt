@@ -121,7 +121,6 @@ impl<'a> TextStacks<'a> {
     pub fn rows(&self) -> &[TextRow<'a>]
         ensures rows { spelled_rows result.now ≡ self.now }
         ensures spelled { All (λ row. IsStackText row.text) result.now }
-        ensures fits { total_of self.now < 2 ^ 63 }
     {
         self.rows.as_slice()
     }

@@ -1,14 +1,14 @@
 //! What the names weigh in the rows of folded text, counted while it is read.
 
-ghost use Rattle.std.specs.Prelude.{◌≡◌, ◌≢◌, ◌+◌, ◌^◌, ◌<◌, ◌++◌, ◌∷◌, [], All, List, MatchResult, IfErr, IfOk, None, OnOk};
+ghost use Rattle.std.specs.Prelude.{◌≡◌, ◌≢◌, ◌+◌, ◌^◌, ◌<◌, ◌++◌, ◌∷◌, [], All, List, MatchResult, IfOk, None, OnOk};
 ghost use Rattle.profile_rows.specs.declared.weighted_stacks.WeightedStack.{WeightedStack};
 ghost use Rattle.profile_rows.specs.Merging.{AreMergedSoFar};
 ghost use Rattle.profile_rows.specs.Rows.{total_of};
 ghost use Rattle.name_counts.specs.Tallies.{HasCounted};
 ghost use Rattle.profile_rows.specs.TopList.{AreTotalsOf};
-ghost use Rattle.folded_text.specs.FoldedText.{IsFoldedText, IsLineFault, IsRowLine, IsWorkFault};
+ghost use Rattle.folded_text.specs.FoldedText.{GivesOfRows, IsLineFault, IsRowLine};
 ghost use Rattle.folded_text.specs.TextRows.{IsStackText, spelled_rows};
-ghost use Rattle.folded_text.specs.TextSums.{AreCounted, AreTotalsOfText};
+ghost use Rattle.folded_text.specs.TextSums.{AreCounted};
 
 use crate::folded::{FoldedFault, read_frames};
 use crate::stack_frames::replace_by_text;
@@ -30,10 +30,10 @@ fn count_line<'a>(
 ) -> Result<(), FoldedFault>
     requires one_line { All (λ byte. byte ≢ 10) line.now }
     requires counted { (before : List WeightedStack) × HasCounted before rows.old × (total_of before < 2 ^ 63) }
-    ensures counted { (before : List WeightedStack) → HasCounted before rows.old
-        → OnOk result ((row : WeightedStack) × IsRowLine line.now row × (total_of before + row.weight < 2 ^ 63)
-        × HasCounted (before ++ row ∷ []) rows.new) }
-    ensures fault { IfErr result (IsLineFault rows.old.tallies.total number line.now) }
+    ensures { MatchResult result (λ done. (before : List WeightedStack) → HasCounted before rows.old
+        → (row : WeightedStack) × IsRowLine line.now row × (total_of before + row.weight < 2 ^ 63)
+        × HasCounted (before ++ row ∷ []) rows.new)
+        (IsLineFault rows.old.tallies.total number line.now) }
 {
     let weight = read_frames(frames, line, rows.total(), number)?;
     Ok(rows.count(frames.as_slice(), weight)?)
@@ -164,9 +164,7 @@ pub fn folded_totals(
     hashing: Hashing,
     text: &[u8],
 ) -> Result<FrameTotals, FoldedFault>
-    ensures counted { MatchResult result (AreTotalsOfText text.now) (IsWorkFault text.now) }
-    ensures accepted { (rows : List WeightedStack) → IsFoldedText text.now rows
-        → MatchResult result (AreTotalsOf rows) (λ fault. fault ≡ FoldedFault.NoMemory) }
+    ensures { GivesOfRows text.now AreTotalsOf result }
 {
     let mut counting = Counting::new(alloc, hashing);
     take_lines(text, &mut counting)?;

@@ -1,7 +1,7 @@
 //! Folded text written.
 
 ghost use Rattle.std.specs.Prelude.{◌≡◌, ◌++◌, ◌<◌, ◌≤◌, All, IfOk, OnOk, length};
-ghost use Rattle.folded_text.specs.FoldedText.{IsFoldedBatch, IsFoldedText, row_text, rows_text};
+ghost use Rattle.folded_text.specs.FoldedText.{IsFoldedBatch, IsTextOf, row_text};
 ghost use Rattle.profile_rows.specs.Names.{IsName};
 ghost use Rattle.profile_rows.specs.Values.{rows_at};
 
@@ -37,8 +37,7 @@ fn push_row(text: &mut Vec<u8>, stack: &Stack, weight: u64) -> Result<(), NoMemo
 ///
 /// `NoMemory`.
 pub fn write_stacks(alloc: Global, rows: &WeightedStacks) -> Result<Vec<u8>, NoMemory>
-    ensures text { IfOk result (λ text. text.items ≡ rows_text rows.now) }
-    ensures reads_back { IfOk result (λ text. IsFoldedText text.items rows.now) }
+    ensures { IfOk result (λ text. IsTextOf rows.now text.items) }
 {
     let mut text = Vec::new(alloc);
     for row in rows.rows() {
@@ -55,8 +54,7 @@ pub fn write_stacks(alloc: Global, rows: &WeightedStacks) -> Result<Vec<u8>, NoM
 /// `NoMemory`.
 pub fn write_folded(alloc: Global, batch: &Batch, value: u32) -> Result<Vec<u8>, NoMemory>
     requires { value < batch.now.width }
-    ensures text { IfOk result (λ text. text.items ≡ rows_text (rows_at value batch.now.rows)) }
-    ensures reads_back { IfOk result (λ text. IsFoldedText text.items (rows_at value batch.now.rows)) }
+    ensures written { IfOk result (λ text. IsTextOf (rows_at value batch.now.rows) text.items) }
     ensures reads_back_whole { IfOk result (λ text. batch.now.width ≡ 1 → IsFoldedBatch text.items batch.now) }
 {
     let mut text = Vec::new(alloc);

@@ -1,25 +1,21 @@
 -- Rows that are written as samples when they come: a name keeps its id as more names come.
 use Rattle.std.proofs.lemmas.Grind.{common_steps, flat_map-append}
-use Rattle.std.proofs.Common.{arith, ◌≡◌, ℕ, ◌+◌, List, [], ◌∷◌, ◌++◌, map, inl, inr, pos, refl, sym, ap, ◌∙◌, subst}
-use Rattle.std.specs.Prelude.{Err, MatchResult, Ok, Result, reverse}
+use Rattle.std.proofs.Common.{arith, ◌≡◌, ℕ, ◌+◌, List, [], ◌∷◌, ◌++◌, map, pos, refl, sym, ap, ◌∙◌, subst}
+use Rattle.std.specs.Prelude.{reverse}
 use Rattle.std.specs.List.{flat_map}
 use Rattle.std.proofs.lemmas.List.{map-append, append-nil}
 use Rattle.std.proofs.lemmas.List.Concat.{flat_map-cons}
 use Rattle.std.proofs.lemmas.List.Sums.{sum_by_push}
 use Rattle.pprof_profile.specs.declared.messages.Sample.{Sample}
-use Rattle.pprof_profile.specs.Canonical.{canonical_bytes_of, sample_bytes, samples_bytes, FitsSample}
+use Rattle.pprof_profile.specs.Canonical.{sample_bytes, samples_bytes, FitsSample}
 use Rattle.pprof_profile.specs.Writing.{FitsEach}
 use Rattle.profile_rows.specs.declared.weighted_stacks.WeightedStack.{WeightedStack}
 use Rattle.profile_rows.specs.Values.{Row, rows_at, single, singles}
-use Rattle.folded_text.specs.declared.folded.FoldedFault.{FoldedFault}
-use Rattle.folded_text.specs.declared.folded.FoldedFault.TheVariants.{NoMemory}
-use Rattle.folded_text.specs.FoldedText.{IsFoldedText, IsWorkFault}
 use Rattle.name_counts.specs.TextTables.{with_texts}
-use Rattle.profile_samples.specs.Export.{AreSamplesOf, IsExportOfText, single_profile_of, exported_sample, id_in}
+use Rattle.profile_samples.specs.Export.{AreSamplesOf, exported_sample, id_in}
 use Rattle.profile_samples.specs.Export.{names_of}
 use Rattle.profile_samples.proofs.ExportLaws.{AllStand, frames_in, number_in-withs, stand_parts, stand_where}
 use Rattle.profile_samples.proofs.ExportLaws.{with_texts-own}
-use Rattle.folded_text.proofs.Reading.{IsFirstFault-folded, IsFoldedText-same}
 use Rattle.name_counts.proofs.TextNumbers.{with_texts-append}
 
 ids_kept : (texts more stack : List (List ℕ))
@@ -78,17 +74,3 @@ pub stacks_first : (rows : List Row)
     → flat_map (λ (r : WeightedStack). r.stack) (rows_at 0 rows) ≡ flat_map (λ (r : Row). r.stack) rows
 stacks_first [] = refl
 stacks_first (row ∷ rows) = grind (arith, common_steps, flat_map-cons, stacks_first rows)
-
--- ---- what the export answers
-
--- folded text has one export
-pub only_export : {T : Type 0} (items : T → List ℕ) (text kind unit : List ℕ) (outcome : Result T FoldedFault)
-    → MatchResult outcome (λ bytes. IsExportOfText text kind unit (items bytes)) (λ fault. IsWorkFault text fault)
-    → (rows : List WeightedStack) → IsFoldedText text rows → MatchResult outcome
-    (λ bytes. items bytes ≡ canonical_bytes_of (single_profile_of rows kind unit)) (λ fault. fault ≡ NoMemory)
-only_export items text kind unit (Ok bytes) exported rows folded = exported.profile ∙ ap (λ some. canonical_bytes_of
-    (single_profile_of some kind unit)) (IsFoldedText-same text exported.rows rows exported.folded folded)
-only_export items text kind unit (Err fault) exported rows folded = elim exported [
-  | inl first ↦ IsFirstFault-folded text rows fault folded first
-  | inr late ↦ late.0
-]

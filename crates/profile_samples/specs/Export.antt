@@ -11,7 +11,7 @@ use Rattle.pprof_profile.specs.Messages.{no_draft, no_function, no_line, no_loca
 use Rattle.profile_rows.specs.declared.weighted_stacks.WeightedStack.{WeightedStack}
 use Rattle.pprof_profile.specs.Canonical.{canonical_bytes_of, sample_bytes, samples_bytes, FitsSample}
 use Rattle.pprof_profile.specs.Writing.{FitsEach}
-use Rattle.folded_text.specs.FoldedText.{IsFoldedText}
+use Rattle.pprof_profile.specs.Profiles.{IsProfile}
 use Rattle.profile_rows.specs.Rows.{total_of}
 use Rattle.profile_rows.specs.Values.{Row, singles}
 use Rattle.profile_samples.specs.declared.exporting.ValueUnit.{ValueUnit}
@@ -98,8 +98,7 @@ pub record AreSamplesOf (rows : List WeightedStack) (names : List (List ℕ)) (s
   pub fits_rows : FitsEach FitsSample sample_bytes (map (exported_sample names) (singles rows))
   pub total_rows : total ≡ total_of rows
 
--- the bytes are the profile of the rows that the text is folded text of
-pub record IsExportOfText (text kind unit bytes : List ℕ) : Type 0 where
-  pub rows : List WeightedStack
-  pub folded : IsFoldedText text rows
-  pub profile : bytes ≡ canonical_bytes_of (single_profile_of rows kind unit)
+-- the bytes are those of the profile that rows are exported as, and are a profile
+pub record IsExportOf (kind unit : List ℕ) (rows : List WeightedStack) (bytes : List ℕ) : Type 0 where
+  pub canonical : bytes ≡ canonical_bytes_of (single_profile_of rows kind unit)
+  pub profile : IsProfile bytes (single_profile_of rows kind unit)

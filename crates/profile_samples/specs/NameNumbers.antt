@@ -1,6 +1,6 @@
 -- The names of a profile's frames by numbers: equal names have one number.
-use Rattle.std.specs.Prelude.{ℕ, ℤ, pos, negsuc, ◌≡◌, All, false, Option, Some, None, List, [], ◌∷◌, ◌++◌}
-use Rattle.std.specs.Prelude.{map, not, is_some, slice_index_or, true, Bool, if◌then◌else◌, eqb, ◌||◌, ◌+◌}
+use Rattle.std.specs.Prelude.{ℕ, ℤ, pos, negsuc, ◌≡◌, ◌<◌, ◌≤◌, All, false, Option, Some, None, List, [], ◌∷◌, ◌++◌}
+use Rattle.std.specs.Prelude.{length, map, not, is_some, slice_index_or, true, Bool, if◌then◌else◌, eqb, ◌||◌, ◌+◌}
 use Rattle.std.specs.List.{list_any}
 use Rattle.std.specs.Option.{option_map, option_or}
 use Rattle.pprof_profile.specs.declared.messages.Draft.{Draft}
@@ -129,3 +129,33 @@ pub record AreFrameNumbers (draft : Draft) (ids : List ℕ) (frames once names :
   pub once_are : once ≡ map once_of frames
   pub names_are : names ≡ frame_names draft
   pub each : All IsName (frame_names draft)
+
+-- ---- how they are found
+
+-- for each of so many strings whether it names a function
+pub record AreMarks (functions : List Function) (many : ℕ) (marks : List Bool) : Type 0 where
+  pub count : length marks ≡ many
+  pub marked : (at : ℕ) → at < many → slice_index_or marks at false ≡ names_function functions at
+
+-- a name was added where it was missing, and has the number, which more names leave
+pub record IsNumbered (name : Option (List ℕ)) (old new : List (List ℕ)) (found : Option ℕ) : Type 0 where
+  pub names : new ≡ with_texts old (given (name ∷ []))
+  pub number : (more : List (List ℕ)) → found ≡ option_map (number_in (with_texts new more)) name
+
+-- the names that the strings give, which those of addresses complete, and the numbers of the strings
+pub record AreStringNumbers (draft : Draft) (texts : List (List ℕ)) (found : List (Option ℕ)) : Type 0 where
+  pub names : with_texts texts (given (address_names draft)) ≡ frame_names draft
+  pub each : All IsName texts
+  pub numbers : found ≡ string_numbers draft
+
+-- the names of all frames, and the numbers of each location's
+pub record AreNumbered (draft : Draft) (texts : List (List ℕ)) (found : List (List ℕ)) : Type 0 where
+  pub names : texts ≡ frame_names draft
+  pub each : All IsName texts
+  pub frames : found ≡ map (numbers_of draft) draft.locations
+
+-- the numbers each once, and the marks of so many numbers: none is above this one
+pub record AreFoundOnce (numbers : List ℕ) (many mark : ℕ) (marks found : List ℕ) : Type 0 where
+  pub once : found ≡ once_of numbers
+  pub count : length marks ≡ many
+  pub marked : All (λ before. before ≤ mark) marks

@@ -139,6 +139,16 @@ abbrev pub HasWeights : ℕ → ℕ → List ℤ → List ℕ → Type 0
 HasWeights first width values weights = (value : ℕ) → value < width
     → slice_get values (first + value) ≡ Some (pos (value_of value weights))
 
+-- so many values from the first on are these weights, and there are no more
+pub record AreWeightsOf (first width : ℕ) (values : List ℤ) (taken : List ℕ) : Type 0 where
+  pub count : length taken ≡ width
+  pub weights : HasWeights first width values taken
+
+-- a choice takes so many values from the first on, no more than these
+pub record AreChosen (most : ℕ) (draft : Draft) (choice : ValueChoice) (first width : ℕ) : Type 0 where
+  pub few : width ≤ most
+  pub chosen : chosen_types_of draft choice ≡ Some (first, width)
+
 -- ---- a sample as a row
 
 -- the row of a sample, by so many values from the first that is taken on
@@ -147,6 +157,12 @@ pub record IsRowOfSample (draft : Draft) (first width : ℕ) (sample : Sample) (
   pub depth : length row.stack ≤ 65535
   pub count : length row.weights ≡ width
   pub values : HasWeights first width sample.values row.weights
+
+-- the sample gives a row of this weight, by the value at an index, which can follow rows of the weight `earlier`
+pub record IsWeightAfter (draft : Draft) (index earlier : ℕ) (sample : Sample) (weight : ℕ) : Type 0 where
+  pub row : IsRowOfSample draft index 1 sample
+      (record { stack = sample_stack_of draft sample.location_ids; weights = weight ∷ [] })
+  pub fits : earlier + weight < 2 ^ 63
 
 -- what keeps a value of a sample from being a weight
 abbrev pub IsValueFault : ℕ → ℕ → List ℤ → BatchFault → Type 0

@@ -1,9 +1,9 @@
 //! A profile's samples as a batch: the values that are chosen, a row for each sample, and why there is none.
 
-ghost use Rattle.std.specs.Prelude.{ℕ, ◌≡◌, ◌+◌, ◌<◌, ◌≤◌, ◌∷◌, ◌++◌, [], IfErr, IfOk, List, MatchResult, OnOk, Some, length};
+ghost use Rattle.std.specs.Prelude.{ℕ, ◌≡◌, ◌+◌, ◌<◌, ◌≤◌, ◌∷◌, ◌++◌, [], List, MatchResult, Some, length};
 ghost use Rattle.profile_rows.specs.Values.{AreTotals, HasRoom, Row};
 ghost use Rattle.profile_samples.specs.declared.sampling.ValueChoice.{ValueChoice};
-ghost use Rattle.profile_samples.specs.Samples.{HasWeights, IsRowOfSample, IsSampleFault, IsValueFault, chosen_types_of};
+ghost use Rattle.profile_samples.specs.Samples.{AreWeightsOf, IsRowOfSample, IsSampleFault, IsValueFault, chosen_types_of};
 ghost use Rattle.profile_samples.specs.Batches.{GivesBatch, IsBatchOf, StandsAtSample};
 
 use crate::name_numbers::NumberedFrames;
@@ -16,9 +16,8 @@ use std::alloc::Global;
 /// The values that are taken, as weights.
 fn weights_of(values: &[i64], chosen: &ChosenValues, number: u64) -> Result<Weights, BatchFault>
     requires { chosen.now.first + chosen.now.width ≤ length values.now }
-    ensures count { IfOk result (λ weights. length weights ≡ chosen.now.width) }
-    ensures weights { IfOk result (HasWeights chosen.now.first chosen.now.width values.now) }
-    ensures fault { IfErr result (λ fault. (value : ℕ) × (value < chosen.now.width)
+    ensures { MatchResult result (AreWeightsOf chosen.now.first chosen.now.width values.now)
+        (λ fault. (value : ℕ) × (value < chosen.now.width)
         × IsValueFault (chosen.now.first + value) number values.now fault) }
 {
     let count = chosen.width.get() as usize;
@@ -41,10 +40,11 @@ fn add_sample(
 ) -> Result<(), BatchFault>
     requires values { chosen.now.first + chosen.now.width ≤ length sample.now.values }
     requires width { batch.old.width ≡ chosen.now.width }
-    ensures added { OnOk result ((row : Row) × IsRowOfSample frames.now chosen.now.first batch.old.width sample.now row
+    ensures { MatchResult result
+        (λ done. (row : Row) × IsRowOfSample frames.now chosen.now.first batch.old.width sample.now row
         × ((value : ℕ) → HasRoom batch.old row.weights value)
-        × (batch.new ≡ record { width = batch.old.width; rows = batch.old.rows ++ row ∷ [] })) }
-    ensures fault { IfErr result (λ fault. (totals : List ℕ) × AreTotals batch.old totals
+        × (batch.new ≡ record { width = batch.old.width; rows = batch.old.rows ++ row ∷ [] }))
+        (λ fault. (totals : List ℕ) × AreTotals batch.old totals
         × IsSampleFault frames.now chosen.now.first totals number sample.now fault) }
 {
     let ids = sample.location_ids();

@@ -1,11 +1,9 @@
 //! Folded text as the bytes of a profile, with no row and no sample kept.
 
-ghost use Rattle.std.specs.Prelude.{◌≡◌, ◌+◌, ◌^◌, ◌<◌, All, IfOk, List, MatchResult, OnOk, map, reverse};
-ghost use Rattle.pprof_profile.specs.Canonical.{canonical_bytes_of};
-ghost use Rattle.pprof_profile.specs.Profiles.{IsProfile};
+ghost use Rattle.std.specs.Prelude.{◌≡◌, ◌+◌, ◌^◌, ◌<◌, All, IfOk, List, OnOk, map, reverse};
 ghost use Rattle.profile_rows.specs.declared.weighted_stacks.WeightedStack.{WeightedStack};
-ghost use Rattle.profile_samples.specs.Export.{AreSamplesOf, IsExportOfText, single_profile_of};
-ghost use Rattle.folded_text.specs.FoldedText.{IsFoldedText, IsWorkFault};
+ghost use Rattle.profile_samples.specs.Export.{AreSamplesOf, IsExportOf};
+ghost use Rattle.folded_text.specs.FoldedText.{GivesOfRows};
 
 use crate::exporting::{ValueUnit, exported_draft};
 use basics::NoMemory;
@@ -60,12 +58,9 @@ fn profile_bytes(
     kind: &str,
     unit: &str,
 ) -> Result<Vec<u8>, NoMemory>
-    ensures canonical { (all : List WeightedStack)
+    ensures { (all : List WeightedStack)
         → AreSamplesOf all rows.now.row.texts rows.now.samples rows.now.total
-        → IfOk result (λ bytes. bytes.items ≡ canonical_bytes_of (single_profile_of all kind.now unit.now)) }
-    ensures profile { (all : List WeightedStack)
-        → AreSamplesOf all rows.now.row.texts rows.now.samples rows.now.total
-        → IfOk result (λ bytes. IsProfile bytes.items (single_profile_of all kind.now unit.now)) }
+        → IfOk result (λ bytes. IsExportOf kind.now unit.now all bytes.items) }
 {
     let units = [ValueUnit { kind, unit }];
     let draft = exported_draft(alloc, hashing, rows.row.names(), &units)?;
@@ -87,14 +82,7 @@ pub fn export_folded(
     kind: &str,
     unit: &str,
 ) -> Result<Vec<u8>, FoldedFault>
-    ensures exported { MatchResult result (λ bytes. IsExportOfText text.now kind.now unit.now bytes.items)
-        (λ fault. IsWorkFault text.now fault) }
-    ensures accepted { (rows : List WeightedStack) → IsFoldedText text.now rows
-        → MatchResult result
-        (λ bytes. bytes.items ≡ canonical_bytes_of (single_profile_of rows kind.now unit.now))
-        (λ fault. fault ≡ FoldedFault.NoMemory) }
-    ensures profile { (rows : List WeightedStack) → IsFoldedText text.now rows
-        → IfOk result (λ bytes. IsProfile bytes.items (single_profile_of rows kind.now unit.now)) }
+    ensures { GivesOfRows text.now (λ rows bytes. IsExportOf kind.now unit.now rows bytes.items) result }
 {
     let mut rows = SampledRows {
         row: NumberedRow::new(alloc, hashing),

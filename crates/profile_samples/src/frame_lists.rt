@@ -2,7 +2,7 @@
 
 ghost use Rattle.std.specs.Prelude.{◌≡◌, ◌<◌, ◌≤◌, ◌++◌, ◌∷◌, [], All, IfOk, OnOk, length, map, slice_get};
 ghost use Rattle.std.specs.Option.{option_map};
-ghost use Rattle.profile_samples.specs.NameNumbers.{once_of};
+ghost use Rattle.profile_samples.specs.NameNumbers.{AreFoundOnce, once_of};
 
 use basics::{Span, append};
 use std::alloc::{AllocError, Global};
@@ -40,9 +40,8 @@ fn each_once(
     requires inside { All (λ number. number < length marks.old.items) numbers.now }
     requires marked { 0 < mark }
     requires fresh { All (λ before. before < mark) marks.old.items }
-    ensures once { OnOk result (once.new.items ≡ once_of numbers.now) }
-    ensures count { OnOk result (length marks.new.items ≡ length marks.old.items) }
-    ensures marked { OnOk result (All (λ before. before ≤ mark) marks.new.items) }
+    ensures { OnOk result
+        (AreFoundOnce numbers.now (length marks.old.items) mark marks.new.items once.new.items) }
 {
     once.clear();
     for number in numbers {

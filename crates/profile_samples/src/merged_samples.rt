@@ -1,15 +1,12 @@
 //! The rows of a profile's samples, those of the same locations merged into one.
 
-ghost use Rattle.std.specs.Prelude.{[], ◌∷◌, ◌≡◌, ◌<◌, IfErr, MatchResult, OnOk, length, Some};
-ghost use Rattle.profile_rows.specs.declared.weighted_stacks.WeightedStack.{WeightedStack};
+ghost use Rattle.std.specs.Prelude.{[], ◌∷◌, ◌≡◌, ◌<◌, MatchResult, length, Some};
 ghost use Rattle.profile_samples.specs.declared.sampling.ValueChoice.{ValueChoice};
 ghost use Rattle.profile_rows.specs.Aggregate.{aggregate_of};
 ghost use Rattle.profile_rows.specs.Rows.{total_of};
-ghost use Rattle.profile_rows.specs.Values.{single};
-ghost use Rattle.profile_samples.specs.Samples.{IsRowOfSample, IsSampleFault, chosen_types_of};
+ghost use Rattle.profile_samples.specs.Samples.{IsSampleFault, chosen_types_of};
 ghost use Rattle.profile_samples.specs.Batches.{GivesOfStacks, StandsAtSample};
-ghost use Rattle.profile_rows.specs.Merging.{AddsRow};
-ghost use Rattle.profile_samples.specs.MergedSamples.{AreRowsAt, IsMergedBatch};
+ghost use Rattle.profile_samples.specs.MergedSamples.{AreRowsAt, IsMerged, IsMergedBatch};
 
 use crate::name_numbers::NumberedFrames;
 use crate::sampling::{BatchFault, ValueChoice, chosen_value, sample_weight, weight_of};
@@ -31,11 +28,9 @@ fn merge_sample<'a>(
 ) -> Result<(), BatchFault>
     requires values { chosen < length sample.now.values }
     requires stacks { AreRowsAt frames.now known.old.keys merged.old }
-    ensures added { OnOk result
-        ((row : WeightedStack) × IsRowOfSample frames.now chosen 1 sample.now (single row)
-        × AddsRow merged.old merged.new row) }
-    ensures stacks { OnOk result (AreRowsAt frames.now known.new.keys merged.new) }
-    ensures fault { IfErr result (IsSampleFault frames.now chosen (total_of merged.old ∷ []) number sample.now) }
+    ensures { MatchResult result
+        (λ done. IsMerged frames.now chosen sample.now known.new.keys merged.old merged.new)
+        (IsSampleFault frames.now chosen (total_of merged.old ∷ []) number sample.now) }
 {
     let ids = sample.location_ids();
     if let Some(at) = known.get_index_of(ids) {

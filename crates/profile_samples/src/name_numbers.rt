@@ -1,13 +1,13 @@
 //! The names of a profile's frames by numbers. Equal names have one number, whether they come of one string, of two or
 //! of an address, so that a sample's frames are told apart without their texts.
 
-ghost use Rattle.std.specs.Prelude.{ℕ, ◌≡◌, ◌<◌, ◌≤◌, ◌↔◌, All, IfOk, IsTrue, List, OnOk, MatchOption, [], ◌∷◌, ◌++◌, length, map, slice_index_or};
+ghost use Rattle.std.specs.Prelude.{ℕ, ◌≡◌, ◌<◌, ◌≤◌, ◌↔◌, All, IfOk, IsTrue, List, MatchOption, [], ◌∷◌, ◌++◌, length, map, slice_index_or};
 ghost use Rattle.std.specs.Option.{option_map};
 ghost use Rattle.pprof_profile.specs.Valid.{IsValidDraft, location_ids};
 ghost use Rattle.profile_rows.specs.Names.{IsName};
 ghost use Rattle.profile_samples.specs.Samples.{frames_of_ids, sample_stack_of};
 ghost use Rattle.name_counts.specs.TextTables.{with_texts};
-ghost use Rattle.profile_samples.specs.NameNumbers.{address_names, frame_names, given, numbers_of, numbers_of_id, once_of};
+ghost use Rattle.profile_samples.specs.NameNumbers.{AreNumbered, address_names, frame_names, given, numbers_of, numbers_of_id, once_of};
 
 use crate::frame_lists::FrameLists;
 use crate::function_numbers::FunctionNumbers;
@@ -31,9 +31,7 @@ fn all_frames(
     requires locations { locations.now ≡ functions.now.locations }
     requires strings { with_texts names.old.keys (given (address_names functions.now)) ≡ frame_names functions.now }
     requires each { All IsName names.old.keys }
-    ensures names { OnOk result (names.new.keys ≡ frame_names functions.now) }
-    ensures each { OnOk result (All IsName names.new.keys) }
-    ensures frames { IfOk result (λ frames. frames ≡ map (numbers_of functions.now) functions.now.locations) }
+    ensures { IfOk result (AreNumbered functions.now names.new.keys) }
 {
     let mut frames = FrameLists::with_capacity(alloc, locations.len())?;
     for location in locations {
@@ -54,9 +52,7 @@ fn frames_of(
 ) -> Result<FrameLists, NoMemory>
     requires valid { IsValidDraft draft.now }
     requires none { names.old.keys ≡ [] }
-    ensures names { OnOk result (names.new.keys ≡ frame_names draft.now) }
-    ensures each { OnOk result (All IsName names.new.keys) }
-    ensures frames { IfOk result (λ frames. frames ≡ map (numbers_of draft.now) draft.now.locations) }
+    ensures { IfOk result (AreNumbered draft.now names.new.keys) }
 {
     let strings = string_numbers(alloc, draft, names)?;
     let functions = FunctionNumbers::new(alloc, hashing, draft, strings.as_slice())?;

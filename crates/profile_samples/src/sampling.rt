@@ -1,11 +1,11 @@
 //! A profile's samples as rows: the values that are chosen, a row for each sample, and why there is none.
 
-ghost use Rattle.std.specs.Prelude.{◌≡◌, ◌+◌, ◌∷◌, [], ◌^◌, ◌<◌, ◌≤◌, IfErr, IfOk, MatchResult, Some, pos, length, slice_get};
+ghost use Rattle.std.specs.Prelude.{◌≡◌, ◌∷◌, [], ◌^◌, ◌<◌, ◌≤◌, IfOk, MatchResult, Some, pos, length, slice_get};
 ghost use Rattle.std.specs.List.{position};
 ghost use Rattle.pprof_profile.specs.declared.messages.ValueType.{ValueType};
 ghost use Rattle.profile_samples.specs.declared.sampling.ValueChoice.{ValueChoice};
 ghost use Rattle.profile_samples.specs.Batches.{IsFirstFault, IsFirstStacksFault};
-ghost use Rattle.profile_samples.specs.Samples.{IsRowOfSample, IsSampleFault, IsValueFault, chosen_types_of, default_type, sample_stack_of, type_named};
+ghost use Rattle.profile_samples.specs.Samples.{AreChosen, IsSampleFault, IsValueFault, IsWeightAfter, chosen_types_of, default_type, type_named};
 ghost use Rattle.profile_samples.specs.EqualStrings.{equal_at, equal_strings};
 
 use crate::name_numbers::NumberedFrames;
@@ -146,9 +146,8 @@ pub(crate) fn chosen_values(
 ) -> Result<ChosenValues, BatchFault>
     requires some { 0 < most }
     requires few { most ≤ MAX_WIDTH }
-    ensures few { IfOk result (λ chosen. chosen.width ≤ most) }
-    ensures chosen { MatchResult result
-        (λ chosen. chosen_types_of draft.now choice.entry ≡ Some (chosen.first, chosen.width))
+    ensures { MatchResult result
+        (λ chosen. AreChosen most draft.now choice.entry chosen.first chosen.width)
         (λ fault. IsFirstFault most draft.now choice.entry fault) }
 {
     let (first, count) = match choice {
@@ -180,8 +179,9 @@ pub(crate) fn chosen_value(
 /// The chosen value as a weight.
 pub(crate) fn weight_of(values: &[i64], chosen: usize, number: u64) -> Result<u64, BatchFault>
     requires { chosen < length values.now }
-    ensures weight { IfOk result (λ weight. (slice_get values.now chosen ≡ Some (pos weight)) × (weight < 2 ^ 63)) }
-    ensures fault { IfErr result (IsValueFault chosen number values.now) }
+    ensures { MatchResult result
+        (λ weight. (slice_get values.now chosen ≡ Some (pos weight)) × (weight < 2 ^ 63))
+        (IsValueFault chosen number values.now) }
 {
     u64::try_from(values[chosen]).map_err(|_| BatchFault::Negative { sample: number })
 }
@@ -196,10 +196,8 @@ pub(crate) fn sample_weight(
 ) -> Result<u64, BatchFault>
     requires values { chosen < length sample.now.values }
     requires earlier { earlier < 2 ^ 63 }
-    ensures row { IfOk result (λ weight. IsRowOfSample frames.now chosen 1 sample.now
-        (record { stack = sample_stack_of frames.now sample.now.location_ids; weights = weight ∷ [] })) }
-    ensures fits { IfOk result (λ weight. earlier + weight < 2 ^ 63) }
-    ensures fault { IfErr result (IsSampleFault frames.now chosen (earlier ∷ []) number sample.now) }
+    ensures { MatchResult result (IsWeightAfter frames.now chosen earlier sample.now)
+        (IsSampleFault frames.now chosen (earlier ∷ []) number sample.now) }
 {
     let weight = weight_of(sample.values(), chosen, number)?;
     if !frames.fit(sample.location_ids()) {

@@ -1,11 +1,8 @@
 //! The names that a profile's strings give.
 
-ghost use Rattle.std.specs.Prelude.{ℕ, ◌≡◌, ◌<◌, ◌||◌, All, IfOk, List, OnOk, [], ◌∷◌, false, length, slice_index_or};
-ghost use Rattle.std.specs.Option.{option_map};
-ghost use Rattle.profile_rows.specs.Names.{IsName};
-ghost use Rattle.name_counts.specs.TextTables.{number_in, with_texts};
+ghost use Rattle.std.specs.Prelude.{ℕ, ◌≡◌, ◌<◌, ◌||◌, IfOk, [], false, length, slice_index_or};
 ghost use Rattle.profile_samples.specs.Samples.{string_at};
-ghost use Rattle.profile_samples.specs.NameNumbers.{address_names, frame_names, given, index_in, is_at, names_function, string_numbers};
+ghost use Rattle.profile_samples.specs.NameNumbers.{AreMarks, AreStringNumbers, IsNumbered, index_in, is_at, string_numbers};
 
 use basics::NoMemory;
 use indexmap::IndexSet;
@@ -39,9 +36,7 @@ fn mark(marks: &mut Vec<bool>, index: i64)
 
 /// For each of so many strings whether it names a function.
 fn name_marks(alloc: Global, functions: &[Function], count: usize) -> Result<Vec<bool>, AllocError>
-    ensures count { IfOk result (λ marks. length marks.items ≡ count) }
-    ensures marked { IfOk result (λ marks. (at : ℕ) → at < count
-        → slice_index_or marks.items at false ≡ names_function functions.now at) }
+    ensures { IfOk result (λ marks. AreMarks functions.now count marks.items) }
 {
     let mut marks = vec![in alloc; false; count]?;
     for function in functions {
@@ -56,9 +51,7 @@ pub(crate) fn number_with(
     names: &mut IndexSet<Name, Hashing>,
     name: Option<Name>,
 ) -> Result<Option<usize>, NoMemory>
-    ensures names { OnOk result (names.new.keys ≡ with_texts names.old.keys (given (name ∷ []))) }
-    ensures number { IfOk result (λ number. (more : List (List ℕ))
-        → number ≡ option_map (number_in (with_texts names.new.keys more)) name) }
+    ensures { IfOk result (IsNumbered name names.old.keys names.new.keys) }
 {
     match name {
         Some(name) => Ok(Some(names.insert_full(name)?.0)),
@@ -73,10 +66,7 @@ pub(crate) fn string_numbers(
     names: &mut IndexSet<Name, Hashing>,
 ) -> Result<Vec<Option<usize>>, NoMemory>
     requires { names.old.keys ≡ [] }
-    ensures names { OnOk result
-        (with_texts names.new.keys (given (address_names draft.now)) ≡ frame_names draft.now) }
-    ensures each { OnOk result (All IsName names.new.keys) }
-    ensures numbers { IfOk result (λ numbers. numbers.items ≡ string_numbers draft.now) }
+    ensures { IfOk result (λ numbers. AreStringNumbers draft.now names.new.keys numbers.items) }
 {
     let strings = draft.strings.as_slice();
     let marks = name_marks(alloc, draft.functions.as_slice(), strings.len())?;

@@ -8,4 +8,4 @@ pub returns-in_err-bytes : goal.returns-in_err-bytes
 returns-in_err-bytes c =
     let told = err_from_is_err_and c.from_residual.result c.from_residual.ensures.1 in
     rw (told.1) (work_refused (for_report None) c.args.input.now c.in_err-bytes.field-0.0 told.0
-    c.in_err-bytes.ensures.exported c.in_err-bytes.ensures.accepted told.2)
+    c.in_err-bytes.ensures.read c.in_err-bytes.ensures.accepted told.2)

@@ -7,4 +7,4 @@ pub returns-in_err-totals : goal.returns-in_err-totals
 returns-in_err-totals c = λ value.
     let told = err_from_is_err_and c.from_residual.result c.from_residual.ensures.1 in
     rw (told.1) (work_refused (for_report value) c.args.input.now c.in_err-totals.field-0.0 told.0
-    c.in_err-totals.ensures.counted c.in_err-totals.ensures.accepted told.2)
+    c.in_err-totals.ensures.read c.in_err-totals.ensures.accepted told.2)

@@ -1,11 +1,12 @@
 -- Where the first line feed stands, the lines are what stands before it, and those after it.
 use Rattle.std.proofs.lemmas.Grind.{common_steps}
-use Rattle.std.proofs.Common.{◌≡◌, ◌≢◌, ℕ, ◌+◌, ◌<◌, true, List, [], ◌∷◌, All, length, take, drop, get_or}
+use Rattle.std.proofs.Common.{◌≡◌, ◌≢◌, ℕ, ◌+◌, ◌<◌, ◌≤◌, true, List, [], ◌∷◌, All, length, take, drop, get_or}
 use Rattle.std.proofs.Common.{ap, subst, ◌∙◌, arith}
 use Rattle.std.specs.List.{after_first, before_first}
 use Rattle.std.specs.Str.Lines.{lines, lines_of_parts, strip_carriage_return}
 use Rattle.std.proofs.lemmas.List.Elements.{All-head}
 use Rattle.std.proofs.lemmas.List.Splits.{slice_split_first}
+use Rattle.folded_text.specs.LineSums.{IsFirstLine}
 use Rattle.folded_text.proofs.Lines.{IsFeed, lines-one_line, more_parts}
 use Rattle.folded_text.proofs.Pieces.{first_passing, slice_split-whole}
 use Rattle.folded_text.proofs.line_sums.first_line.Goals as goal
@@ -28,19 +29,20 @@ whole text some none =
     grind (arith, common_steps)
 
 -- no line holds a line feed
-one_line : (text line : List ℕ) (after : List (List ℕ)) → lines text ≡ line ∷ after → All (λ byte. byte ≢ 10) line
-one_line text line after is =
-    All-head (All (λ (byte : ℕ). byte ≢ 10)) line after
-    (subst (All (All (λ (byte : ℕ). byte ≢ 10))) is (lines-one_line text))
+first : (text line : List ℕ) (size : ℕ) → lines text ≡ line ∷ lines (drop size text)
+    → 0 < size → size ≤ length text → IsFirstLine text line size
+first text line size is some within = record {
+  lines_are = is;
+  one_line = All-head (All (λ (byte : ℕ). byte ≢ 10)) line (lines (drop size text))
+      (subst (All (All (λ (byte : ℕ). byte ≢ 10))) is (lines-one_line text));
+  some = some;
+  within = within;
+}
 
-pub returns-in-Some-clause-lines : goal.returns-in-Some-clause-lines
-returns-in-Some-clause-lines c = grind (arith, common_steps, cut)
+pub returns-in-Some : goal.returns-in-Some
+returns-in-Some c =
+    first c.args.text.now _ _ (grind (arith, common_steps, cut)) (omega arith) (grind (arith, common_steps))
 
-pub returns-in-Some-clause-one_line : goal.returns-in-Some-clause-one_line
-returns-in-Some-clause-one_line c = one_line c.args.text.now _ _ (returns-in-Some-clause-lines c)
-
-pub returns-in-None-clause-lines : goal.returns-in-None-clause-lines
-returns-in-None-clause-lines c = grind (arith, common_steps, whole)
-
-pub returns-in-None-clause-one_line : goal.returns-in-None-clause-one_line
-returns-in-None-clause-one_line c = one_line c.args.text.now _ _ (returns-in-None-clause-lines c)
+pub returns-in-None : goal.returns-in-None
+returns-in-None c =
+    first c.args.text.now _ _ (grind (arith, common_steps, whole)) (grind (arith, common_steps)) (omega arith)

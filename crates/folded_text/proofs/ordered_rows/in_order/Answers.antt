@@ -7,4 +7,5 @@ use Rattle.folded_text.proofs.ordered_rows.in_order.Goals as goal
 pub invariant_of-result : goal.invariant_of-result
 invariant_of-result c =
     let rows = spelled_rows c.into_rows-rows.result.0.items in
-    rw c.in_ok-sorted.ensures (rows_of-IsAscending (aggregate_of rows), rows_of-AreWeighty rows)
+    rw c.in_ok-sorted.ensures
+    (record { ascending = rows_of-IsAscending (aggregate_of rows); weighty = rows_of-AreWeighty rows })

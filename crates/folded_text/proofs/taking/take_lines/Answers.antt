@@ -18,7 +18,7 @@ take_line-requires g c =
 pub loop-index-preserved-in-Continue-1 : goal.loop-index-preserved-in-Continue-1
 loop-index-preserved-in-Continue-1 g c =
     let (rows, so_far, taken) = c.loop-index.invariant in
-    let (row, this, fits, more) = c.in_ok-take_line.ensures.taken rows taken so_far.fits in
+    let (row, this, fits, more) = c.in_ok-take_line.ensures rows taken so_far.fits in
     let some = filled c.in-Some.line.now (sym c.is_empty.ensures ∙ c.if-not-is_empty.true) in
     let read = IsReadTo-row c.args.text.now _ _ rows c.in-Some.line.now _ _ row _ so_far c.in-Some.ensures.steps.0
     c.in-Some.ensures.steps.2 some this fits refl in

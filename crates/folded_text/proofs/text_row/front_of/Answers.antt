@@ -18,10 +18,8 @@ seven c =
       c.first_rank-seventh.ensures.digits 0,
     )
 
-pub returns-clause-front : goal.returns-clause-front
-returns-clause-front c =
-    omega (arith, ap (number_of 0) (seven c))
-
-pub returns-clause-digits : goal.returns-clause-digits
-returns-clause-digits c =
-    subst AreDigits (sym (seven c)) (search rules)
+pub returns : goal.returns
+returns c = record {
+  front_is = omega (arith, ap (number_of 0) (seven c));
+  digits = subst AreDigits (sym (seven c)) (search rules);
+}

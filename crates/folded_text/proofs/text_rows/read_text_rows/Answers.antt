@@ -5,6 +5,5 @@ use Rattle.folded_text.proofs.text_rows.read_text_rows.Goals as goal
 
 pub returns : goal.returns
 returns c =
-    let (rows, folded, sums) = c.in_ok-take_lines.ensures.taken in
-    let same = AreMergedSoFar-same rows (spelled_rows c.take_lines.new.taker) sums in
-    record { rows = rows; folded = folded; same = same }
+    let (rows, folded, sums) = c.in_ok-take_lines.ensures in
+    (rows, folded, AreMergedSoFar-same rows (spelled_rows c.take_lines.new.taker) sums)

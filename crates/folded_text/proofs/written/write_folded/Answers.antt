@@ -37,17 +37,18 @@ whole : (c : goal.After-loop-at)
     → take c.loop-at.at (rows_at c.args.value c.args.batch.now.rows) ≡ rows_at c.args.value c.args.batch.now.rows
 whole c = grind (arith, common_steps, length-rows_at)
 
-pub returns-clause-text : goal.returns-clause-text
-returns-clause-text c = c.loop-at.invariant.0 ∙ ap rows_text (whole c)
-
-pub returns-clause-reads_back : goal.returns-clause-reads_back
-returns-clause-reads_back c = search (rules, rows_text-IsFoldedText, all_batch_rows, whole)
+pub returns-clause-written : goal.returns-clause-written
+returns-clause-written c = record {
+  lines_are = c.loop-at.invariant.0 ∙ ap rows_text (whole c);
+  reads_back = search (rules, rows_text-IsFoldedText, all_batch_rows, whole);
+}
 
 pub returns-clause-reads_back_whole : goal.returns-clause-reads_back_whole
 returns-clause-reads_back_whole c = λ one.
     let rows = c.args.batch.now.rows in
     let first : c.args.value ≡ 0 = omega (arith, one, c.requires) in (
       rows_at 0 rows,
-      subst (λ value. IsFoldedText c.loop-at.text.items (rows_at value rows)) first (returns-clause-reads_back c),
+      subst (λ value. IsFoldedText c.loop-at.text.items (rows_at value rows)) first
+          (returns-clause-written c).reads_back,
       sym (single_batch-rows_at c.args.batch.now c.first.ensures.batch one),
     )

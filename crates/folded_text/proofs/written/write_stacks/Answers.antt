@@ -15,5 +15,8 @@ loop-row-preserved c = (
       (subst can_stand c.row-item.is (c.in_ok-push_row.ensures.names, c.push_row.ensures.depth)),
 )
 
-pub returns-clause-reads_back : goal.returns-clause-reads_back
-returns-clause-reads_back c = search (rules, take_all, rows_text-IsFoldedText, all_batch_rows)
+pub returns : goal.returns
+returns c = record {
+  lines_are = grind (arith, common_steps, take_all);
+  reads_back = search (rules, take_all, rows_text-IsFoldedText, all_batch_rows);
+}

@@ -4,8 +4,8 @@ use Rattle.std.proofs.lemmas.Result.{err_from_is_err_and}
 use Rattle.profile_samples.proofs.SampleRows.{fits_in, IsSampleFault-heavy, IsSampleFault-memory}
 use Rattle.profile_samples.proofs.batches.add_sample.Goals as goal
 
-pub returns-in-Some-clause-fault : goal.returns-in-Some-clause-fault
-returns-in-Some-clause-fault c =
+pub returns-in-Some : goal.returns-in-Some
+returns-in-Some c =
     let count = sym (c.total-totals.ensures.totals.width ∙ c.requires.width) in
     let deep = fits_in c.args.frames.now c.args.sample.now.location_ids c.fit.result
     (rw c.location_ids-ids.ensures at c.fit.ensures) c.if-not-fit.false in (
@@ -17,8 +17,8 @@ returns-in-Some-clause-fault c =
           (refl, _, c.in-Some.ensures.0, c.in-Some.ensures.1.heavy),
     )
 
-pub returns-in_err-stack-clause-fault : goal.returns-in_err-stack-clause-fault
-returns-in_err-stack-clause-fault c =
+pub returns-in_err-stack : goal.returns-in_err-stack
+returns-in_err-stack c =
     let p = err_from_is_err_and c.from_residual-in_err-stack.result c.from_residual-in_err-stack.ensures.1 in
     let count = sym (c.total-totals.ensures.totals.width ∙ c.requires.width) in
     let deep = fits_in c.args.frames.now c.args.sample.now.location_ids c.fit.result
@@ -31,8 +31,8 @@ returns-in_err-stack-clause-fault c =
           (rw (c.values.ensures, count) at c.in_ok-weights.ensures.weights) deep c.in_default.ensures,
     )
 
-pub returns-in_err-map_err-clause-fault : goal.returns-in_err-map_err-clause-fault
-returns-in_err-map_err-clause-fault c =
+pub returns-in_err-map_err : goal.returns-in_err-map_err
+returns-in_err-map_err c =
     let p = err_from_is_err_and c.from_residual-in_err-map_err.result c.from_residual-in_err-map_err.ensures.1 in
     let count = sym (c.total-totals.ensures.totals.width ∙ c.requires.width) in
     let deep = fits_in c.args.frames.now c.args.sample.now.location_ids c.fit.result

@@ -14,7 +14,7 @@ add_sample-requires-clause-values c =
 pub returns-in_err-add_sample : goal.returns-in_err-add_sample
 returns-in_err-add_sample c = λ choice is_chosen.
     let p = err_from_is_err_and c.from_residual.result c.from_residual.ensures.1 in
-    let (totals, are, fault) = c.in_err-add_sample.ensures.fault in
+    let (totals, are, fault) = c.in_err-add_sample.ensures in
     let few = c.loop-index.invariant.is.few in
     let wide = c.loop-index.invariant.wide in
     rw (p.1, p.2) (IsBatchSoFar-stands 4 c.args.profile.now choice c.args.chosen.now.first c.args.chosen.now.width
@@ -24,7 +24,7 @@ returns-in_err-add_sample c = λ choice is_chosen.
 
 pub loop-index-preserved : goal.loop-index-preserved
 loop-index-preserved c =
-    let (row, this, room, more) = c.in_ok-add_sample.ensures.added in
+    let (row, this, room, more) = c.in_ok-add_sample.ensures in
     IsBatchSoFar-row c.args.profile.now c.args.chosen.now.first c.args.chosen.now.width c.loop-index.index
     c.at-sample.result c.loop-index.batch row _ (rw c.draft.ensures.draft at c.at-sample.ensures)
     c.loop-index.invariant (rw c.requires.framed at this) room more

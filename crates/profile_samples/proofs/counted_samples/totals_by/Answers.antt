@@ -27,7 +27,7 @@ returns-in_err-weight c = λ choice is_chosen.
     let p = err_from_is_err_and c.from_residual.result c.from_residual.ensures.1 in
     let (rows, so_far, counted) = c.loop-index.invariant in
     let read = rw c.draft.ensures.draft at c.at-sample.ensures in
-    let there = rw (c.requires.framed, counted.total) at c.in_err-weight.ensures.fault in
+    let there = rw (c.requires.framed, counted.total) at c.in_err-weight.ensures in
     rw (p.1, p.2) (inl (AreStacksSoFar-stands c.args.profile.now choice c.args.chosen
     c.loop-index.index c.at-sample.result rows c.in_err-weight.field-0.0 is_chosen read so_far there))
 

@@ -1,12 +1,15 @@
 -- The draft around the samples is the rows' export, which is valid.
+use Rattle.std.specs.Prelude.{Err, Ok, Result}
+use Rattle.std.specs.declared.vec.Vec.{Vec}
 use Rattle.std.proofs.Common.{ℕ, List, ◌≡◌, [], ◌∷◌, ap, ◌∙◌, sym, subst, map, IfOk}
 use Rattle.pprof_profile.specs.Canonical.{canonical_bytes_of}
 use Rattle.pprof_profile.specs.declared.messages.Draft.{Draft}
+use Rattle.pprof_profile.specs.Profiles.{IsProfile}
 use Rattle.pprof_profile.specs.Valid.{IsValidDraft}
 use Rattle.profile_rows.specs.declared.weighted_stacks.WeightedStack.{WeightedStack}
 use Rattle.profile_rows.specs.Values.{singles}
 use Rattle.profile_samples.specs.Export.{exported_draft, exported_sample, names_of, profile_with, single_profile_of}
-use Rattle.profile_samples.specs.Export.{strings_of}
+use Rattle.profile_samples.specs.Export.{IsExportOf, strings_of}
 use Rattle.profile_samples.proofs.ExportLaws.{export_valid}
 use Rattle.profile_samples.proofs.SampleBatches.{widths-singles}
 use Rattle.profile_samples.proofs.folded_export.profile_bytes.Goals as goal
@@ -23,19 +26,21 @@ filled draft names kind unit all is same =
     with_samples) is
     ∙ ap (λ texts. profile_with texts (strings_of units texts) rows units) same
 
-pub returns-clause-profile : goal.returns-clause-profile
-returns-clause-profile c = λ all so_far.
+both : {T E : Type 0} (items : T → List ℕ) (kind unit : List ℕ) (all : List WeightedStack) (outcome : Result T E)
+    → IfOk outcome (λ bytes. items bytes ≡ canonical_bytes_of (single_profile_of all kind unit))
+    → IfOk outcome (λ bytes. IsProfile (items bytes) (single_profile_of all kind unit))
+    → IfOk outcome (λ bytes. IsExportOf kind unit all (items bytes))
+both items kind unit all (Ok bytes) canonical profile = record { canonical = canonical; profile = profile }
+both items kind unit all (Err fault) canonical profile = tt
+
+pub returns : goal.returns
+returns c = λ all so_far.
+    let samples = map (exported_sample c.args.rows.now.row.texts) (singles all) in
     let made = filled c.in_ok-draft.draft c.args.rows.now.row.texts c.args.kind.now c.args.unit.now all
     (rw c.names.ensures at c.in_ok-draft.ensures) so_far.names_rows in
-    rw (sym made) (c.encode_around.ensures.profile
-    (map (exported_sample c.args.rows.now.row.texts) (singles all)) so_far.samples_rows so_far.fits_rows
+    both (λ (bytes : Vec ℕ _). bytes.items) c.args.kind.now c.args.unit.now all c.encode_around.result
+    (subst (λ d. IfOk c.encode_around.result (λ bytes. bytes.items ≡ canonical_bytes_of d)) made
+    (c.encode_around.ensures.canonical samples so_far.samples_rows))
+    (rw (sym made) (c.encode_around.ensures.profile samples so_far.samples_rows so_far.fits_rows
     (subst (λ (d : Draft). IsValidDraft d) (sym made)
-    (export_valid (singles all) ((c.args.kind.now, c.args.unit.now) ∷ []) (widths-singles all))))
-
-pub returns-clause-canonical : goal.returns-clause-canonical
-returns-clause-canonical c = λ all so_far.
-    subst (λ d. IfOk c.encode_around.result (λ bytes. bytes.items ≡ canonical_bytes_of d))
-    (filled c.in_ok-draft.draft c.args.rows.now.row.texts c.args.kind.now c.args.unit.now all
-    (rw c.names.ensures at c.in_ok-draft.ensures) so_far.names_rows)
-    (c.encode_around.ensures.canonical
-    (map (exported_sample c.args.rows.now.row.texts) (singles all)) so_far.samples_rows)
+    (export_valid (singles all) ((c.args.kind.now, c.args.unit.now) ∷ []) (widths-singles all)))))

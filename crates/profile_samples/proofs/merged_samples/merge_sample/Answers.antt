@@ -30,39 +30,40 @@ added_to draft chosen at weight sample sums value there fits =
     ap (λ s. let r : WeightedStack = record { stack = s; weight = weight } in r) (sym there.1) in
     (row, one_value_row draft chosen sample weight value there.2, AddsRow-added sums at weight row there.0 fits same)
 
-pub returns-in-Some-clause-added : goal.returns-in-Some-clause-added
-returns-in-Some-clause-added c =
+pub returns-in-Some : goal.returns-in-Some
+returns-in-Some c =
     let sums = c.args.merged.now in
     let there = stack_found c.args.frames.now c.args.known.now.keys sums c.location_ids-ids.result.now c.in-Some.at
     c.requires.stacks (sym c.in-Some.is ∙ c.get_index_of.ensures.index) in
     let added : c.add_weight.new.self ≡ with_added_at sums c.in-Some.at c.in_ok-weight.weight =
     grind (arith, common_steps) in
     let fits : total_of sums + c.in_ok-weight.weight < 2 ^ 63 = grind (arith, common_steps) in
-    rw added (added_to c.args.frames.now c.args.chosen c.in-Some.at c.in_ok-weight.weight c.args.sample.now sums
-    (rw c.values.ensures at c.in_ok-weight.ensures.weight.0) (rw c.location_ids-ids.ensures at there) fits)
+    record {
+      added = rw added (added_to c.args.frames.now c.args.chosen c.in-Some.at c.in_ok-weight.weight c.args.sample.now
+          sums (rw c.values.ensures at c.in_ok-weight.ensures.0) (rw c.location_ids-ids.ensures at there) fits);
+      stacks = grind (arith, common_steps, AreRowsAt-added);
+    }
 
-pub returns-in-Some-clause-stacks : goal.returns-in-Some-clause-stacks
-returns-in-Some-clause-stacks c = grind (arith, common_steps, AreRowsAt-added)
-
-pub returns-in_err-map_err-clause-fault : goal.returns-in_err-map_err-clause-fault
-returns-in_err-map_err-clause-fault c =
+pub returns-in_err-map_err : goal.returns-in_err-map_err
+returns-in_err-map_err c =
     let p = err_from_is_err_and c.from_residual-in_err-map_err.result c.from_residual-in_err-map_err.ensures.1 in
     let there = stack_found c.args.frames.now c.args.known.now.keys c.args.merged.now c.location_ids-ids.result.now
     c.in-Some.at c.requires.stacks (sym c.in-Some.is ∙ c.get_index_of.ensures.index) in
     let heavy : c.in_err-map_err.field-0.0 ≡ Heavy c.args.number = grind (arith, common_steps) in
     let passed : 2 ^ 63 ≤ total_of c.args.merged.now + c.in_ok-weight.weight = grind (arith, common_steps) in
     rw (p.1, p.2, heavy) (one_value_heavy c.args.frames.now c.args.chosen (total_of c.args.merged.now) c.args.number
-    c.args.sample.now c.in_ok-weight.weight (rw c.values.ensures at c.in_ok-weight.ensures.weight.0)
+    c.args.sample.now c.in_ok-weight.weight (rw c.values.ensures at c.in_ok-weight.ensures.0)
     (rw c.location_ids-ids.ensures at there.2) passed)
 
-pub returns-clause-added : goal.returns-clause-added
-returns-clause-added c = (
-  record { stack = sample_stack_of c.args.frames.now c.args.sample.now.location_ids; weight = c.in_ok-weight-2.weight },
-  c.in_ok-weight-2.ensures.row,
-  grind (arith, common_steps, AddsRow-push),
-)
-
-pub returns-clause-stacks : goal.returns-clause-stacks
-returns-clause-stacks c =
+pub returns : goal.returns
+returns c =
+    let stack = sample_stack_of c.args.frames.now c.args.sample.now.location_ids in
     let fresh = c.in_default.ensures.found in
-    grind (arith, common_steps, map-append, All-push, fresh)
+    record {
+      added = (
+        record { stack = stack; weight = c.in_ok-weight-2.weight },
+        c.in_ok-weight-2.ensures.row,
+        grind (arith, common_steps, AddsRow-push),
+      );
+      stacks = grind (arith, common_steps, map-append, All-push, fresh);
+    }

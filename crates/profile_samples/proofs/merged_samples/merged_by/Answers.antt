@@ -19,7 +19,7 @@ returns-in_err-merge_sample c = λ choice is_chosen.
     let p = err_from_is_err_and c.from_residual.result c.from_residual.ensures.1 in
     let (rows, so_far, sums) = c.loop-index.invariant.0 in
     let read = rw c.draft.ensures.draft at c.at-sample.ensures in
-    let there = rw (c.requires.framed, sums.total) at c.in_err-merge_sample.ensures.fault in
+    let there = rw (c.requires.framed, sums.total) at c.in_err-merge_sample.ensures in
     rw (p.1, p.2) (AreStacksSoFar-stands c.args.profile.now choice c.args.chosen
     c.loop-index.index c.at-sample.result rows c.in_err-merge_sample.field-0.0 is_chosen read so_far there)
 

@@ -19,13 +19,14 @@ first text line at size is = grind (arith, common_steps)
 pub loop-len-preserved : goal.loop-len-preserved
 loop-len-preserved c =
     let (inside, numbered, so_far) = c.loop-len.invariant in
-    let next = first c.args.text.now _ c.loop-len.len _ c.first_line-size.ensures.lines in (
+    let next = first c.args.text.now _ c.loop-len.len _ c.first_line-size.ensures.lines_are in (
       grind (arith, common_steps),
       omega (arith, numbered, c.first_line-size.ensures.some),
       elim c.if-not-is_empty.branch [
         | then-not-is_empty+in_default w ↦
             let (row, this, adds) = w.in_default.ensures.added in
-            rw w.self-is (AreAddedTo-row _ _ _ _ _ _ _ so_far next _ row (filled _ (sym w.if-not-is_empty.ensures)) this adds)
+            rw w.self-is
+            (AreAddedTo-row _ _ _ _ _ _ _ so_far next _ row (filled _ (sym w.if-not-is_empty.ensures)) this adds)
         | else-not-is_empty w ↦ rw w.self-is (AreAddedTo-skip _ _ _ _ _ _ _ so_far next
             (eqb-true _ 0 (sym w.if-not-is_empty.ensures)))
       ],

@@ -24,7 +24,7 @@ invariant_of-self-2 c =
     (rw (c.self.invariant.total_is, c.self.view_is) c.requires.fits) (rw c.in_ok-kept.ensures.ok c.requires.spelled)
     c.self.invariant)
 
-pub returns-clause-added : goal.returns-clause-added
-returns-clause-added c =
+pub returns : goal.returns
+returns c =
     let all = pushed c in
     AddsRow-push _ _ _ (grind (arith, common_steps)) c.requires.fits

@@ -1,4 +1,5 @@
 -- A row weighs more, and no text changes.
+use Rattle.std.proofs.lemmas.Grind.{common_steps}
 use Rattle.std.proofs.Common.{◌<◌, ◌+◌, ◌^◌, arith}
 use Rattle.folded_text.proofs.KeptTexts.{AreKeptTexts-added, spelled-set, value-within}
 use Rattle.folded_text.proofs.line_sums.LineSums.add_to.Goals as goal
@@ -18,7 +19,9 @@ invariant_of-self c =
     (omega (arith, c.if-weight-self.false, c.self.invariant.fits)) c.self.invariant
 
 pub returns-clause-added : goal.returns-clause-added
-returns-clause-added c =
-    rw (← c.self.view_is) (spelled-set c.self.inside.weights.entries c.args.at c.index_mut.result.now c.args.weight _
-    (rw c.self.view_is c.requires) c.index_mut.ensures.value
-    (omega (arith, c.if-weight-self.false, c.self.invariant.fits)) c.self.invariant)
+returns-clause-added c = record {
+  added = rw (← c.self.view_is) (spelled-set c.self.inside.weights.entries c.args.at c.index_mut.result.now
+      c.args.weight _ (rw c.self.view_is c.requires) c.index_mut.ensures.value
+      (omega (arith, c.if-weight-self.false, c.self.invariant.fits)) c.self.invariant);
+  fits = grind (arith, common_steps, c.if-weight-self.false);
+}

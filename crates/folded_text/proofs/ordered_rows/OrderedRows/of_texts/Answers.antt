@@ -8,7 +8,10 @@ pub invariant_of-result : goal.invariant_of-result
 invariant_of-result c =
     let (weights, are) = c.requires in
     let is = c.in_ok-of_texts.ensures weights are ∙ ap rows_of (sym are.whole) in
-    (rw (c.in_ok-of_texts.ensures weights are) (rows_of-IsAscending weights), rw is (rows_of-AreWeighty are.rows))
+    record {
+      ascending = rw (c.in_ok-of_texts.ensures weights are) (rows_of-IsAscending weights);
+      weighty = rw is (rows_of-AreWeighty are.rows);
+    }
 
 pub returns : goal.returns
 returns c = c.in_ok-of_texts.ensures

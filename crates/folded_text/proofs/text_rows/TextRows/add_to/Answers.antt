@@ -13,5 +13,8 @@ invariant_of-self c =
     rw c.add.ensures (AreKnownTexts-added _ _ c.args.weight _ lt c.index_mut.ensures.value _ _ _
     (omega (arith, c.self.invariant.fits, c.if-weight-self.false)) c.self.invariant)
 
-pub returns-clause-added : goal.returns-clause-added
-returns-clause-added c = grind (arith, common_steps, spelled-added)
+pub returns : goal.returns
+returns c = record {
+  added = grind (arith, common_steps, spelled-added);
+  fits = grind (arith, common_steps, c.if-weight-self.false);
+}

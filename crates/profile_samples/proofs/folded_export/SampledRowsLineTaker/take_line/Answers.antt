@@ -10,18 +10,18 @@ use Rattle.profile_samples.proofs.ExportedRows.{AreSamplesOf-push}
 use Rattle.name_counts.proofs.TextNumbers.{text_of}
 use Rattle.profile_samples.proofs.folded_export.SampledRowsLineTaker.take_line.Goals as goal
 
-pub returns-clause-taken : goal.returns-clause-taken
-returns-clause-taken c = λ before so_far within.
+pub returns : goal.returns
+returns c = λ before so_far within.
     let weight = c.in_ok-weight.weight in
-    let (fits, this) = c.in_ok-weight.ensures.spelled in
-    let small : weight < 2 ^ 63 = omega (arith, fits) in
+    let this = c.in_ok-weight.ensures in
+    let small : weight < 2 ^ 63 = omega (arith, this.fits) in
     let texts = c.replace.new.self.texts in
     let frames = map text_of c.read_frames.new.frames.items in
     let lent : map text_of c.as_slice.result.now ≡ frames = ap (map text_of) c.as_slice.ensures.value in
     let samples = map (exported_sample c.args.self.now.row.texts) (singles before) in (
       record { stack = frames; weight = weight },
-      this,
-      rw (← so_far.total_rows) fits,
+      this.spelled,
+      rw (← so_far.total_rows) this.fits,
       AreSamplesOf-push before (record { stack = frames; weight = weight })
           c.args.self.now.row.texts texts
           c.args.self.now.samples c.push.new.self c.replace_ids.new.ids.items c.args.self.now.total _ so_far

@@ -2,7 +2,7 @@
 use Rattle.std.proofs.Common.{◌≡◌, ℕ, zero, suc, ◌+◌, ◌*◌, ◌==◌, ◌<◌, ◌≤◌, ◌⊎◌, inl, inr, Bool, true, false, List, []}
 use Rattle.std.proofs.Common.{◌∷◌, ◌++◌, length, take, map, get_or, slice_get, Option, Some, None, All, AllPairs, refl}
 use Rattle.std.proofs.Common.{sym, ap, ◌∙◌, subst, arith, length-append}
-use Rattle.std.specs.Prelude.{MatchBool, MatchResult, IsSomeAnd, Result, Ok, Err, OnOk}
+use Rattle.std.specs.Prelude.{MatchBool, MatchResult, IsSomeAnd, Result, Ok, Err}
 use Rattle.std.specs.List.{filter}
 use Rattle.std.proofs.lemmas.List.{map-append, append-nil, length-map, take_all}
 use Rattle.std.proofs.lemmas.List.Elements.{All-weaker, All-push, All-nil, filter-append}
@@ -21,7 +21,7 @@ use Rattle.op_book.specs.declared.book.changing.Change.TheVariants as change
 use Rattle.op_book.specs.declared.fault.BookFault.{BookFault}
 use Rattle.op_book.specs.declared.fault.BookFault.TheVariants as book
 use Rattle.flame_report.specs.declared.query.Query.{Query}
-use Rattle.live_store.specs.Changes.{HasChanged, IsRefused}
+use Rattle.live_store.specs.Changes.{HasChanged, HasMade, IsRefused}
 use Rattle.live_store.specs.Sessions.{IsBorneOut, IsPlaced, IsSound, changes_by, changes_of}
 use Rattle.live_store.specs.Stores.{IsShownBy, SessionState, ShowsCause, changes_told}
 
@@ -193,15 +193,16 @@ pub borne_either : {P : Type 0} (result : Result P BookFault) (place : P → ℕ
     → MatchResult result (λ p. HasChanged before op (place p) (told p) after)
     (IsRefused limit sessions width before op after) → IsBorneOut before.number before.log before.seen
     → (after.number ≡ before.number) × IsBorneOut after.number after.log after.seen
-    × OnOk result (changes_by after.number after.seen ≡ changes_of after.log)
+    × MatchResult result (λ p. HasMade before op (place p) (told p) after)
+    (IsRefused limit sessions width before op after)
 borne_either (Ok p) place told limit sessions width before after op changes did h =
     let both : IsBorneOut after.number after.log after.seen
     × (changes_by after.number after.seen ≡ changes_of after.log) =
     rw (did.number, did.log) (borne_changed before.number
     (changes_told before.log) (place p) op before.log before.seen after.seen changes refl did.placed h) in
-    (did.number, both.0, both.1)
+    (did.number, both.0, record { changed = did; own = both.1 })
 borne_either (Err f) place told limit sessions width before after op changes did h =
-    (did.number, rw (did.number, did.log) (borne_more before.number before.log before.seen after.seen did.seen h), tt)
+    (did.number, rw (did.number, did.log) (borne_more before.number before.log before.seen after.seen did.seen h), did)
 
 -- what is known here begins with what was known before
 pub caught_up : (old here own : List PlainEntry) → (here ≡ own) × IsPrefix old own → IsPrefix old here

@@ -3,7 +3,7 @@ use Rattle.std.specs.Prelude.{ℕ, ◌≡◌, ◌≢◌, ◌<◌, ◌≤◌, ◌
 use Rattle.logbook.specs.Pages.{Book}
 use Rattle.profile_rows.specs.Rows.{total_of}
 use Rattle.profile_rows.specs.Values.{rows_at}
-use Rattle.op_book.specs.Books.{BookState, IsFirstBookFault}
+use Rattle.op_book.specs.Books.{BookState, IsFirstBookFault, JournalState}
 use Rattle.op_book.specs.Operations.{MissesWidth, PlainEntry, PlainOp, PlainReceipt, changes_in, is_change}
 use Rattle.op_book.specs.Operations.{operations_of, profile_after, rows_added}
 use Rattle.op_book.specs.Runs.{turns_of}
@@ -20,6 +20,20 @@ pub record StoreLimits : Type 0 where
   pub sessions : ℕ
   pub width : ℕ
   pub history : Book
+
+-- a blank of a store of this limit, of so many sessions, 1 to 64, and of rows of so many values
+pub record IsBlankOf (limit sessions width : ℕ) (blank : StoreLimits) : Type 0 where
+  pub limit_is : blank.limit ≡ limit
+  pub sessions_are : blank.sessions ≡ sessions
+  pub width_is : blank.width ≡ width
+  pub some : 0 < sessions
+  pub few : sessions ≤ 64
+
+-- the journal of a store of this limit, of so many sessions, and of rows of so many values
+pub record IsJournalOf (limit sessions width : ℕ) (journal : JournalState) : Type 0 where
+  pub sessions_are : journal.sessions ≡ sessions
+  pub width_is : journal.width ≡ width
+  pub few : length journal.entries ≤ limit
 
 -- why no store of so many sessions is made
 abbrev pub IsMakeFault : ℕ → MakeFault → Type 0

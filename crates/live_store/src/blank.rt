@@ -1,7 +1,7 @@
 //! A store before any thread uses it.
 
-ghost use Rattle.std.specs.Prelude.{◌≡◌, ◌<◌, ◌≤◌, [], IfOk, MatchResult};
-ghost use Rattle.live_store.specs.Stores.{IsMakeFault};
+ghost use Rattle.std.specs.Prelude.{◌≡◌, [], IfOk, MatchResult};
+ghost use Rattle.live_store.specs.Stores.{IsBlankOf, IsMakeFault};
 
 use crate::fault::MakeFault;
 use op_book::Book;
@@ -45,8 +45,7 @@ impl Model for Blank {
 fn first_version(alloc: Global, book: &Book, seen: Reached) -> Result<Version, NoMemory>
     requires nothing { book.now.entries ≡ [] }
     requires fresh { seen.log ≡ [] }
-    ensures seen { IfOk result (λ version. version.seen ≡ seen) }
-    ensures width { IfOk result (λ version. version.width ≡ book.now.width) }
+    ensures { IfOk result (λ version. version ≡ record { seen = seen; width = book.now.width }) }
 {
     let _ = book.entries();
     let tree = book.tree().share()?;
@@ -61,10 +60,7 @@ impl Blank {
     /// `Sessions` exactly where it can't have so many sessions; `Place` where there is no memory for its versions;
     /// `NoMemory`.
     pub fn make(alloc: Global, limit: u32, sessions: u32, width: Width) -> Result<Blank, MakeFault>
-        ensures made { IfOk result
-            (λ blank. (blank.limit ≡ limit) × (blank.sessions ≡ sessions) × (blank.width ≡ width)) }
-        ensures sessions { MatchResult result (λ _. (0 < sessions) × (sessions ≤ MAX_SESSIONS))
-            (λ fault. IsMakeFault sessions fault) }
+        ensures { MatchResult result (IsBlankOf limit sessions width) (IsMakeFault sessions) }
     {
         Blank::make_with(alloc, Hashing::fixed(), limit, sessions, width)
     }
@@ -81,10 +77,7 @@ impl Blank {
         sessions: u32,
         width: Width,
     ) -> Result<Blank, MakeFault>
-        ensures made { IfOk result
-            (λ blank. (blank.limit ≡ limit) × (blank.sessions ≡ sessions) × (blank.width ≡ width)) }
-        ensures sessions { MatchResult result (λ _. (0 < sessions) × (sessions ≤ MAX_SESSIONS))
-            (λ fault. IsMakeFault sessions fault) }
+        ensures { MatchResult result (IsBlankOf limit sessions width) (IsMakeFault sessions) }
     {
         if sessions == 0 || sessions > MAX_SESSIONS {
             return Err(MakeFault::Sessions);

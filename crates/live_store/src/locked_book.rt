@@ -1,14 +1,14 @@
 //! What a store's lock keeps, and what happens under it.
 
-ghost use Rattle.std.specs.Prelude.{◌≡◌, ◌+◌, ◌<◌, ◌≤◌, [], IfErr, IfOk, MatchResult, OnOk, length};
+ghost use Rattle.std.specs.Prelude.{◌≡◌, ◌+◌, ◌<◌, ◌≤◌, [], IfOk, MatchResult, OnErr, OnOk, length};
 ghost use Rattle.std.specs.Arc.{arc_value};
 ghost use Rattle.left_right.specs.Sides.{view as known};
-ghost use Rattle.op_book.specs.Books.{IsAppended, IsFirstBookFault, IsSameBook};
+ghost use Rattle.op_book.specs.Books.{IsSameBook};
 ghost use Rattle.op_book.specs.Changes.{change_op};
 ghost use Rattle.op_book.specs.Operations.{reset};
 ghost use Rattle.shown_versions.specs.Views.{IsOf, listed};
-ghost use Rattle.live_store.specs.Changes.{HasChanged, IsNextOf, IsRefused, IsWindow, session_of};
-ghost use Rattle.live_store.specs.Stores.{IsGiveFault, changes_told};
+ghost use Rattle.live_store.specs.Changes.{IsEvent, IsNextOf, IsNoEvent, IsRefused, IsWindow, session_of};
+ghost use Rattle.live_store.specs.Stores.{IsGiveFault, IsJournalOf};
 
 use crate::blank::Blank;
 use crate::fault::SessionFault;
@@ -53,9 +53,8 @@ pub(crate) struct LockedBook<N: StoreName> {
 fn version_of<N: StoreName>(book: &Book, front: &Front<N>, tree: Arc<CallTree>) -> Version
     requires front { front.now ≡ book.now.entries }
     requires tree { arc_value tree ≡ book.now.tree }
-    ensures log { result.seen.log ≡ front.now }
-    ensures history { result.seen.book ≡ N.history }
-    ensures width { result.width ≡ book.now.width }
+    ensures { result
+        ≡ record { seen = record { log = front.now; book = N.history }; width = book.now.width } }
 {
     let _ = book.entries();
     Version::new(front.len(), tree, front.reached())
@@ -146,18 +145,12 @@ impl<N: StoreName> LockedBook<N> {
     ) -> Result<Placed<N>, BookFault>
         requires log { (log.old.number < N.sessions)
             × (length log.old.receipts.items < log.old.receipts.cap) }
-        ensures changed { MatchResult result
-            (λ placing. HasChanged (session_of log.old front.old) (change_op change.entry)
-            placing.place placing.told (session_of log.new front.new))
-            (IsRefused N.limit N.sessions N.width (session_of log.old front.old) (change_op change.entry)
-            (session_of log.new front.new)) }
-        ensures book { MatchResult result
-            (λ _. IsAppended self.old.book log.old.number (changes_told log.old.receipts.items)
-            (change_op change.entry) self.new.book) (λ _. IsSameBook self.old.book self.new.book) }
-        ensures whole { front.new ≡ self.new.book.entries }
+        ensures event { MatchResult result
+            (λ placing. IsEvent (session_of log.old front.old) self.old.book (change_op change.entry)
+            placing.place placing.told (session_of log.new front.new) self.new.book)
+            (IsNoEvent N.limit N.sessions N.width (session_of log.old front.old) self.old.book
+            (change_op change.entry) (session_of log.new front.new) self.new.book) }
         ensures given { self.new.given ≡ self.old.given }
-        ensures first_fault { IfErr result (IsFirstBookFault self.old.book log.old.number
-            (changes_told log.old.receipts.items) (change_op change.entry)) }
     {
         let _ = self.book.entries();
         self.end.catch_up(front);
@@ -180,14 +173,12 @@ impl<N: StoreName> LockedBook<N> {
     ) -> Result<Window<N>, BookFault>
         requires log { (log.old.number < N.sessions)
             × (length log.old.receipts.items < log.old.receipts.cap) }
-        ensures changed { MatchResult result
-            (λ window. HasChanged (session_of log.old front.old) reset window.placed.place window.placed.told
-            (session_of log.new front.new))
+        ensures event { MatchResult result
+            (λ window. IsEvent (session_of log.old front.old) self.old.book reset
+            window.placed.place window.placed.told (session_of log.new front.new) self.new.book)
             (IsRefused N.limit N.sessions N.width (session_of log.old front.old) reset
             (session_of log.new front.new)) }
-        ensures book { MatchResult result
-            (λ _. IsAppended self.old.book log.old.number (changes_told log.old.receipts.items) reset self.new.book)
-            (λ _. IsSameBook self.old.book self.new.book) }
+        ensures book { OnErr result (IsSameBook self.old.book self.new.book) }
         ensures given { self.new.given ≡ self.old.given }
         ensures window { IfOk result
             (λ window. IsWindow front.new window.placed.place N.width (arc_value window.tree)) }
@@ -210,10 +201,8 @@ impl<N: StoreName> LockedBook<N> {
         requires tree { arc_value tree ≡ ready.next }
         requires next { IsNextOf (session_of log.old front.old) self.old.book ready }
         requires room { length log.old.receipts.items < log.old.receipts.cap }
-        ensures changed { HasChanged (session_of log.old front.old) ready.op result.place result.told
-            (session_of log.new front.new) }
-        ensures book { IsAppended self.old.book ready.session ready.turn ready.op self.new.book }
-        ensures whole { front.new ≡ self.new.book.entries }
+        ensures event { IsEvent (session_of log.old front.old) self.old.book ready.op
+            result.place result.told (session_of log.new front.new) self.new.book }
         ensures given { self.new.given ≡ self.old.given }
     {
         let _ = self.book.entries();
@@ -233,9 +222,7 @@ impl<N: StoreName> LockedBook<N> {
 
     /// The book closed, and the versions ended.
     pub(crate) fn close<R: Wait>(self, rt: &R) -> Journal
-        ensures sessions { result.sessions ≡ N.sessions }
-        ensures width { result.width ≡ N.width }
-        ensures few { length result.entries ≤ N.limit }
+        ensures { IsJournalOf N.limit N.sessions N.width result }
     {
         let LockedBook {
             book,

@@ -1,15 +1,13 @@
 //! A session: what one thread asks of a store, and what it was told.
 
-ghost use Rattle.std.specs.Prelude.{◌≡◌, ◌≢◌, ◌<◌, ◌≤◌, ◌⊎◌, ◌++◌, ◌∷◌, [], ℕ, List, IfErr, IfOk, MatchResult, OnErr, OnOk, length};
+ghost use Rattle.std.specs.Prelude.{◌≡◌, ◌≢◌, ◌<◌, ◌≤◌, ◌⊎◌, ◌++◌, ◌∷◌, [], ℕ, List, IfErr, IfOk, MatchResult};
 ghost use Rattle.std.specs.Arc.{arc_value};
-ghost use mathlib.Core.List.{IsPrefix};
-ghost use Rattle.op_book.specs.Books.{receipt_after};
 ghost use Rattle.op_book.specs.Changes.{change_op};
 ghost use Rattle.op_book.specs.Operations.{PlainOp, PlainReceipt, add, answered, ask, plain_op, reset};
 ghost use Rattle.flame_report.specs.declared.answer.Answer.{Answer};
-ghost use Rattle.live_store.specs.Changes.{HasChanged, IsRefused, IsWindow};
-ghost use Rattle.live_store.specs.Sessions.{IsBorneOut, changes_by, changes_of};
-ghost use Rattle.live_store.specs.Stores.{IsShownBy, IsUnseen, ShowsCause, changes_told};
+ghost use Rattle.live_store.specs.Changes.{HasHeard, HasMade, HasReported, IsRefused, IsUnanswered, IsWindow};
+ghost use Rattle.live_store.specs.Sessions.{IsBorneOut};
+ghost use Rattle.live_store.specs.Stores.{IsUnseen};
 ghost use Rattle.live_store.specs.Workers.{ops_told};
 
 use crate::locked_book::Log;
@@ -98,12 +96,7 @@ impl<'a, N: StoreName> Session<'a, N> {
 
     /// From now on the session knows of what was told: its answers take in that change and all before it.
     pub fn hear(&mut self, told: &Told<N>)
-        ensures number { self.new.number ≡ self.old.number }
-        ensures log { self.new.log ≡ self.old.log }
-        ensures longer { length self.old.seen < length told.now → self.new.seen ≡ told.now }
-        ensures same { length told.now ≤ length self.old.seen → self.new.seen ≡ self.old.seen }
-        ensures begins { IsPrefix self.old.seen self.new.seen }
-        ensures begins_told { IsPrefix told.now self.new.seen }
+        ensures { HasHeard self.old told.now self.new }
     {
         self.front = self.front.longer(&told.front);
     }
@@ -121,9 +114,8 @@ impl<'a, N: StoreName> Session<'a, N> {
         batch: Arc<Batch>,
     ) -> Result<Placed<N>, Refused<Arc<Batch>>>
         ensures changed { MatchResult result
-            (λ placing. HasChanged self.old (add (arc_value batch)) placing.place placing.told self.new)
+            (λ placing. HasMade self.old (add (arc_value batch)) placing.place placing.told self.new)
             (λ refused. IsRefused N.limit N.sessions N.width self.old (add (arc_value batch)) self.new refused.fault) }
-        ensures own { OnOk result (changes_by self.new.number self.new.seen ≡ changes_of self.new.log) }
         ensures back { IfErr result (λ refused. refused.back ≡ batch) }
     {
         match self.change(rt, alloc, Change::Add(&batch)) {
@@ -140,9 +132,8 @@ impl<'a, N: StoreName> Session<'a, N> {
     /// knows of the changes that were the cause.
     pub fn reset<R: Wait>(&mut self, rt: &R, alloc: Global) -> Result<Placed<N>, BookFault>
         ensures changed { MatchResult result
-            (λ placing. HasChanged self.old reset placing.place placing.told self.new)
+            (λ placing. HasMade self.old reset placing.place placing.told self.new)
             (IsRefused N.limit N.sessions N.width self.old reset self.new) }
-        ensures own { OnOk result (changes_by self.new.number self.new.seen ≡ changes_of self.new.log) }
         ensures light { IfErr result (λ fault. (value held : ℕ) → fault ≢ BookFault.Heavy value held) }
     {
         self.change(rt, alloc, Change::Reset)
@@ -158,9 +149,8 @@ impl<'a, N: StoreName> Session<'a, N> {
     /// Those of [`reset`](Session::reset). `NoMemory` also where the tree has as many owners as it can have.
     pub fn take<R: Wait>(&mut self, rt: &R, alloc: Global) -> Result<Window<N>, BookFault>
         ensures changed { MatchResult result
-            (λ window. HasChanged self.old reset window.placed.place window.placed.told self.new)
+            (λ window. HasMade self.old reset window.placed.place window.placed.told self.new)
             (IsRefused N.limit N.sessions N.width self.old reset self.new) }
-        ensures own { OnOk result (changes_by self.new.number self.new.seen ≡ changes_of self.new.log) }
         ensures light { IfErr result (λ fault. (value held : ℕ) → fault ≢ BookFault.Heavy value held) }
         ensures window { IfOk result
             (λ window. IsWindow self.new.seen window.placed.place N.width (arc_value window.tree)) }
@@ -179,10 +169,9 @@ impl<'a, N: StoreName> Session<'a, N> {
         alloc: Global,
         change: Change<'_>,
     ) -> Result<Placed<N>, BookFault>
-        ensures changed { MatchResult result
-            (λ placing. HasChanged self.old (change_op change.entry) placing.place placing.told self.new)
+        ensures { MatchResult result
+            (λ placing. HasMade self.old (change_op change.entry) placing.place placing.told self.new)
             (IsRefused N.limit N.sessions N.width self.old (change_op change.entry) self.new) }
-        ensures own { OnOk result (changes_by self.new.number self.new.seen ≡ changes_of self.new.log) }
     {
         self.log.make_room()?;
         let mut book = self.store.lock(rt);
@@ -217,13 +206,10 @@ impl<'a, N: StoreName> Session<'a, N> {
         alloc: Global,
         op: Op,
     ) -> Result<(), BookFault>
-        ensures taken { OnOk result
-            (ops_told self.new.log ≡ ops_told self.old.log ++ plain_op op ∷ []) }
-        ensures unchanged { OnErr result (self.new.log ≡ self.old.log) }
+        ensures taken { MatchResult result
+            (λ _. ops_told self.new.log ≡ ops_told self.old.log ++ plain_op op ∷ [])
+            (IsUnanswered N.limit N.width self.old (plain_op op) self.new) }
         ensures number { self.new.number ≡ self.old.number }
-        ensures cause { IfErr result
-            (ShowsCause N.limit N.width (changes_told self.old.log) (plain_op op)) }
-        ensures shown { IfErr result (IsShownBy self.new.seen self.new.number) }
     {
         match op {
             Op::Add(batch) => match self.add(rt, alloc, batch) {
@@ -240,11 +226,8 @@ impl<'a, N: StoreName> Session<'a, N> {
 
     /// Answers a query over a version that is shown, and keeps the receipt.
     fn report(&mut self, alloc: Global, query: &Arc<Query>) -> Result<(), BookFault>
-        ensures extended { OnOk result (self.new.log
-            ≡ self.old.log ++ receipt_after self.new.seen (ask (arc_value query.now)) ∷ []) }
-        ensures seen { OnOk result (IsPrefix self.old.seen self.new.seen) }
-        ensures unchanged { OnErr result (self.new ≡ self.old) }
-        ensures number { self.new.number ≡ self.old.number }
+        ensures reported { MatchResult result
+            (λ _. HasReported self.old (ask (arc_value query.now)) self.new) (λ _. self.new ≡ self.old) }
         ensures width { MatchResult result (λ _. (arc_value query.now).value < N.width) (λ fault.
             ((N.width ≤ (arc_value query.now).value) × (fault ≡ BookFault.Width N.width))
             ⊎ (((arc_value query.now).value < N.width) × IsUnseen fault)) }

@@ -1,6 +1,7 @@
 //! The store: a book behind one lock, and versions of its tree.
 
-ghost use Rattle.std.specs.Prelude.{◌≡◌, ◌<◌, ◌≤◌, [], IfOk, length};
+ghost use Rattle.std.specs.Prelude.{◌≡◌, ◌<◌, [], IfOk};
+ghost use Rattle.live_store.specs.Stores.{IsJournalOf};
 
 use crate::blank::Blank;
 use crate::fault::SessionFault;
@@ -60,9 +61,7 @@ impl<N: StoreName> Store<N> {
 
     /// The journal of the store, once all its sessions have ended, and the end of its versions.
     pub fn close<R: Wait>(self, rt: &R) -> Journal
-        ensures sessions { result.sessions ≡ N.sessions }
-        ensures width { result.width ≡ N.width }
-        ensures few { length result.entries ≤ N.limit }
+        ensures { IsJournalOf N.limit N.sessions N.width result }
     {
         let Store {
             book,

@@ -1,9 +1,11 @@
 //! Workers: threads of which each takes the operations of a list to a session of its own.
 
-ghost use Rattle.std.specs.Prelude.{◌≡◌, ◌≢◌, ◌<◌, ◌≤◌, [], length, map, vec_capacity, All, IfErr, IfOk, IfSome, IsSomeAnd, MatchOption};
+ghost use Rattle.std.specs.Prelude.{◌≡◌, ◌≢◌, ◌<◌, ◌≤◌, [], length, map, vec_capacity, All, IfOk, IfSome, IsSomeAnd};
+ghost use Rattle.std.specs.Prelude.{MatchOption, MatchResult};
 ghost use Rattle.std.specs.Option.{ForSome};
 ghost use Rattle.op_book.specs.Operations.{plain_op};
-ghost use Rattle.live_store.specs.Workers.{AreFinished, AreWorkOf, IsFinished, IsSeen, IsStarted, IsStopShown, IsStoppedBy, IsWorkersFault, ops_told};
+ghost use Rattle.live_store.specs.Workers.{AreFinished, AreSeenWork, IsFinished, IsStarted};
+ghost use Rattle.live_store.specs.Workers.{IsStopShown, IsStoppedBy, IsWorkersFault, ops_told};
 
 use crate::fault::WorkersFault;
 use crate::session::Session;
@@ -119,10 +121,8 @@ pub fn run_workers<'a, N: StoreName, G: Gate, R: Threads + Wait + Sync>(
     lists: Vec<Vec<Op>>,
     gate: &G,
 ) -> Result<Vec<FinishedWorker>, WorkersFault>
-    ensures work { IfOk result
-        (λ all. AreWorkOf N.limit N.width (map (λ list. map plain_op list.items) lists.items) all.items) }
-    ensures seen { IfOk result (λ all. All (IsSeen N.sessions) all.items) }
-    ensures fault { IfErr result (IsWorkersFault (length lists.items)) }
+    ensures { MatchResult result (λ all. AreSeenWork N.limit N.width N.sessions
+        (map (λ list. map plain_op list.items) lists.items) all.items) (IsWorkersFault (length lists.items)) }
 {
     let workers = open(rt, alloc, store, lists)?;
     Ok(work_all(rt, alloc, workers, gate)?)
@@ -135,9 +135,8 @@ fn open<'a, N: StoreName, R: Wait>(
     store: &'a Store<N>,
     lists: Vec<Vec<Op>>,
 ) -> Result<Vec<Worker<'a, N>>, WorkersFault>
-    ensures lists { IfOk result (λ workers. map (λ worker. map plain_op worker.list.items) workers.items
-        ≡ map (λ list. map plain_op list.items) lists.items) }
-    ensures fault { IfErr result (IsWorkersFault (length lists.items)) }
+    ensures { MatchResult result (λ workers. map (λ worker. map plain_op worker.list.items) workers.items
+        ≡ map (λ list. map plain_op list.items) lists.items) (IsWorkersFault (length lists.items)) }
 {
     let mut workers = Vec::with_capacity(alloc, lists.len())?;
     for list in lists {

@@ -1,6 +1,6 @@
 -- What logs, runs and journals weigh.
 use Rattle.std.proofs.lemmas.Grind.{common_steps}
-use Rattle.std.proofs.Common.{rules, ℕ, zero, suc, ◌≡◌, ◌<◌, ◌≤◌, ◌+◌, ◌-◌, Bool, true, false, cond, Option, Some, List}
+use Rattle.std.proofs.Common.{rules, ℕ, zero, suc, ◌≡◌, ◌<◌, ◌+◌, ◌-◌, Bool, true, false, cond, Option, Some, List}
 use Rattle.std.proofs.Common.{[], ◌∷◌, ◌++◌, get_or, length, filter, map, take, ap, sym, subst, ◌∙◌, refl, arith}
 use Rattle.std.specs.Prelude.{IsPermutation, nat_le, sum_by}
 use Rattle.std.specs.List.{flat_map, list_any}

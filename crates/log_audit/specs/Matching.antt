@@ -1,12 +1,14 @@
 -- When the logs of sessions match a journal, what refuses them first, and the run of a match.
 use Rattle.std.specs.Prelude.{ℕ, ◌≡◌, ◌≢◌, ◌<◌, ◌≤◌, ◌+◌, Option, Some, None, IfSome, true, false, List, [], ◌∷◌, ◌++◌}
 use Rattle.std.specs.Prelude.{All, AllPairs, Any, length, map, take, IsPermutation, IsSorted}
+use Rattle.std.specs.List.{filter}
 use Rattle.std.specs.Ordering.{nat_cmp, ordering_then}
 use Rattle.std.specs.declared.cmp.Ordering.{Ordering}
 use Rattle.op_book.specs.Books.{JournalState}
 use Rattle.op_book.specs.Operations.{PlainOp, PlainReceipt, PlainReply, add, reset, ask, is_change, operations_of}
 use Rattle.op_book.specs.Operations.{plain_answer}
 use Rattle.op_book.specs.Receipts.{HasEntry, Precedes, key_of}
+use Rattle.op_book.specs.Runs.{IsLegal}
 use Rattle.op_book.specs.declared.entry.SessionLog.{SessionLog}
 use Rattle.log_audit.specs.declared.fault.AuditFault.{AuditFault}
 use Rattle.log_audit.specs.declared.fault.AuditFault.TheVariants.{TwoLogs, Stranger, Order, Missing, WrongAnswer}
@@ -144,6 +146,13 @@ abbrev pub run_cmp : LoggedReceipt → LoggedReceipt → Ordering
 run_cmp one other = ordering_then (nat_cmp (key_of one.receipt) (key_of other.receipt))
     (ordering_then (nat_cmp one.session other.session) (nat_cmp one.index other.index))
 
+-- the receipts of logs, of which each session has one, each receipt is of the journal, and each log is in order
+pub record AreKnown (journal : JournalState) (logs : List SessionLog) (all : List LoggedReceipt) : Type 0 where
+  pub receipts : all ≡ logged logs
+  pub one_log_each : HasOneLogEach logs
+  pub known : All (IsKnown journal) (logged logs)
+  pub in_order : All IsInOrder (logged logs)
+
 -- the receipts of logs in the order of a run: each session has one log, each receipt is of the journal, and each log is
 -- in order
 pub record AreOrdered (journal : JournalState) (logs : List SessionLog) (ordered : List LoggedReceipt) : Type 0 where
@@ -159,3 +168,14 @@ pub record IsRunOf (logs : List SessionLog) (steps : List PlainStep) : Type 0 wh
   pub all : IsPermutation (logged logs) ordered
   pub sorted : IsSorted run_cmp ordered
   pub steps_are : steps ≡ map step_of ordered
+
+-- the run of logs that match a journal: each of its replies is the plain answer after the steps before it, its changes
+-- are the journal's, and it has each receipt once, in each session's own order
+pub record IsAuditedRun (journal : JournalState) (logs : List SessionLog) (run : List PlainStep) : Type 0 where
+  pub matched : LogsMatch journal logs
+  pub run_is : IsRunOf logs run
+  pub legal : IsLegal (λ (step : PlainStep). step.op) (λ (step : PlainStep). step.reply) run
+  pub changes : filter is_change (map (λ (step : PlainStep). step.op) run) ≡ operations_of journal.entries
+  pub each_receipt_once : IsPermutation (steps_in logs) run
+  pub own_order : AllPairs (λ (earlier : PlainStep) (later : PlainStep). earlier.session ≡ later.session
+      → earlier.index < later.index) run

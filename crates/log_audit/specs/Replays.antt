@@ -36,11 +36,12 @@ AreLight operations = (count value : ℕ) → total_of (rows_at value (profile_a
 abbrev pub total_after : List LoggedReceipt → ℕ → ℕ → ℕ
 total_after all count value = total_of (rows_at value (profile_after (ops_in (take count all))))
 
--- what an audit keeps after so many of the receipts: the totals of what counts after them, and a tree of what counts
--- after the first of them
-pub record IsFollowed (all : List LoggedReceipt) (count : ℕ) (followed : ReplayState) : Type 0 where
+-- what an audit keeps after so many of the receipts, of so many values: the totals of what counts after them, and a
+-- tree of what counts after the first of them
+pub record IsFollowed (all : List LoggedReceipt) (count width : ℕ) (followed : ReplayState) : Type 0 where
   pub totals : (value : ℕ) → value_of value followed.totals ≡ total_after all count value
-  pub width : length followed.totals ≡ followed.grower.width
+  pub width_is : length followed.totals ≡ width
+  pub wide : followed.grower.width ≡ width
   pub grown : followed.grown ≤ count
   pub tree : IsTreeOf (ops_in (take followed.grown all)) followed.grower
 

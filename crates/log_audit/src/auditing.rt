@@ -1,12 +1,8 @@
 //! The audit: whether the logs of sessions match a journal.
 
-ghost use Rattle.std.specs.Prelude.{◌≡◌, ◌<◌, All, AllPairs, IfErr, IfOk, IsPermutation, List, MatchResult, map};
-ghost use Rattle.log_audit.specs.Matching.{AreOrdered, HasOneLogEach, IsFirstAuditFault, IsInOrder, IsKnown, IsRunOf};
-ghost use Rattle.log_audit.specs.Matching.{LogsMatch, logged, steps_in};
-ghost use Rattle.op_book.specs.Operations.{is_change, operations_of};
-ghost use Rattle.op_book.specs.Runs.{IsLegal};
+ghost use Rattle.std.specs.Prelude.{◌≡◌, List, MatchResult};
+ghost use Rattle.log_audit.specs.Matching.{AreKnown, AreOrdered, IsAuditedRun, IsFirstAuditFault, LogsMatch};
 ghost use Rattle.op_book.specs.declared.entry.SessionLog.{SessionLog};
-ghost use Rattle.std.specs.List.{filter};
 
 use crate::fault::AuditFault;
 use crate::receipts::{Logged, Place, all_receipts, first_out_of_order, first_unknown, second_log};
@@ -23,17 +19,10 @@ use std::alloc::Global;
 ///
 /// The first [`AuditFault`] exactly where the logs don't match; `NoMemory`.
 pub fn audit(alloc: Global, journal: &Journal, logs: &[SessionLog]) -> Result<Run, AuditFault>
-    ensures first { MatchResult result
-        (λ run. LogsMatch journal.now logs.now × IsRunOf logs.now run)
-        (λ fault. IsFirstAuditFault journal.now logs.now fault) }
+    ensures audited { MatchResult result (IsAuditedRun journal.now logs.now)
+        (IsFirstAuditFault journal.now logs.now) }
     ensures accepted { LogsMatch journal.now logs.now
         → MatchResult result (λ _. Unit {0}) (λ fault. fault ≡ AuditFault.NoMemory) }
-    ensures legal { IfOk result (λ run. IsLegal (λ step. step.op) (λ step. step.reply) run) }
-    ensures changes { IfOk result
-        (λ run. filter is_change (map (λ step. step.op) run) ≡ operations_of journal.now.entries) }
-    ensures each_receipt_once { IfOk result (λ run. IsPermutation (steps_in logs.now) run) }
-    ensures own_order { IfOk result
-        (λ run. AllPairs (λ earlier later. earlier.session ≡ later.session → earlier.index < later.index) run) }
 {
     audit_with(alloc, Hashing::fixed(), journal, logs)
 }
@@ -49,34 +38,10 @@ pub fn audit_with(
     journal: &Journal,
     logs: &[SessionLog],
 ) -> Result<Run, AuditFault>
-    ensures first { MatchResult result
-        (λ run. LogsMatch journal.now logs.now × IsRunOf logs.now run)
-        (λ fault. IsFirstAuditFault journal.now logs.now fault) }
+    ensures audited { MatchResult result (IsAuditedRun journal.now logs.now)
+        (IsFirstAuditFault journal.now logs.now) }
     ensures accepted { LogsMatch journal.now logs.now
         → MatchResult result (λ _. Unit {0}) (λ fault. fault ≡ AuditFault.NoMemory) }
-    ensures legal { IfOk result (λ run. IsLegal (λ step. step.op) (λ step. step.reply) run) }
-    ensures changes { IfOk result
-        (λ run. filter is_change (map (λ step. step.op) run) ≡ operations_of journal.now.entries) }
-    ensures each_receipt_once { IfOk result (λ run. IsPermutation (steps_in logs.now) run) }
-    ensures own_order { IfOk result
-        (λ run. AllPairs (λ earlier later. earlier.session ≡ later.session → earlier.index < later.index) run) }
-{
-    run_of(alloc, hashing, journal, logs)
-}
-
-/// The run of logs, where they match.
-fn run_of(
-    alloc: Global,
-    hashing: Hashing,
-    journal: &Journal,
-    logs: &[SessionLog],
-) -> Result<Run, AuditFault>
-    ensures first { MatchResult result
-        (λ run. LogsMatch journal.now logs.now × IsRunOf logs.now run)
-        (λ fault. IsFirstAuditFault journal.now logs.now fault) }
-    ensures legal { IfOk result (λ run. IsLegal (λ step. step.op) (λ step. step.reply) run) }
-    ensures changes { IfOk result
-        (λ run. filter is_change (map (λ step. step.op) run) ≡ operations_of journal.now.entries) }
 {
     let ordered = ordered_receipts(alloc, journal, logs)?;
     run_in_order(alloc, hashing, journal, &ordered)
@@ -90,12 +55,8 @@ fn run_in_order(
     ordered: &[Logged],
 ) -> Result<Run, AuditFault>
     requires { (logs : List SessionLog) × AreOrdered journal.now logs ordered.now }
-    ensures first { (logs : List SessionLog) → AreOrdered journal.now logs ordered.now
-        → MatchResult result (λ run. LogsMatch journal.now logs × IsRunOf logs run)
-        (λ fault. IsFirstAuditFault journal.now logs fault) }
-    ensures legal { IfOk result (λ run. IsLegal (λ step. step.op) (λ step. step.reply) run) }
-    ensures changes { IfOk result
-        (λ run. filter is_change (map (λ step. step.op) run) ≡ operations_of journal.now.entries) }
+    ensures { (logs : List SessionLog) → AreOrdered journal.now logs ordered.now
+        → MatchResult result (IsAuditedRun journal.now logs) (IsFirstAuditFault journal.now logs) }
 {
     let entries = journal.entries();
     if let Some(entry) = first_missing(entries.len() as u64, ordered) {
@@ -117,8 +78,8 @@ fn ordered_receipts<'a>(
     journal: &Journal,
     logs: &'a [SessionLog],
 ) -> Result<Vec<Logged<'a>>, AuditFault>
-    ensures ordered { IfOk result (λ all. AreOrdered journal.now logs.now all.items) }
-    ensures fault { IfErr result (IsFirstAuditFault journal.now logs.now) }
+    ensures { MatchResult result (λ all. AreOrdered journal.now logs.now all.items)
+        (IsFirstAuditFault journal.now logs.now) }
 {
     let mut all = known_receipts(alloc, journal, logs)?;
     sort_for_run(&mut all)?;
@@ -131,10 +92,8 @@ fn known_receipts<'a>(
     journal: &Journal,
     logs: &'a [SessionLog],
 ) -> Result<Vec<Logged<'a>>, AuditFault>
-    ensures receipts { IfOk result (λ all. all.items ≡ logged logs.now) }
-    ensures checked { IfOk result (λ _. HasOneLogEach logs.now × All (IsKnown journal.now) (logged logs.now)
-        × All IsInOrder (logged logs.now)) }
-    ensures fault { IfErr result (IsFirstAuditFault journal.now logs.now) }
+    ensures { MatchResult result (λ all. AreKnown journal.now logs.now all.items)
+        (IsFirstAuditFault journal.now logs.now) }
 {
     if let Some(session) = second_log(alloc, logs)? {
         return Err(AuditFault::TwoLogs { session });

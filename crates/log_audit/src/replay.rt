@@ -76,11 +76,10 @@ fn is_right(
     requires fitted { All (λ one. FitsWidth followed.grower.width one.receipt.op) ordered.now }
     requires light { AreLight (ops_in ordered.now) }
     requires within { at < length ordered.now }
-    requires followed { IsFollowed ordered.now at followed }
+    requires followed { IsFollowed ordered.now at followed.grower.width followed }
     ensures right { (otherwise : LoggedReceipt)
         → IfOk result (λ told. IsTrue told.1 ↔ IsPlainAt ordered.now at otherwise) }
-    ensures followed { IfOk result (λ told. IsFollowed ordered.now at told.0) }
-    ensures width { IfOk result (λ told. told.0.grower.width ≡ followed.grower.width) }
+    ensures followed { IfOk result (λ told. IsFollowed ordered.now at followed.grower.width told.0) }
 {
     let one = &ordered[at];
     let receipt = one.receipt;

@@ -38,8 +38,7 @@ impl ReplayState {
         hashing: Hashing,
         width: Width,
     ) -> Result<ReplayState, NoMemory>
-        ensures followed { (all : List LoggedReceipt) → IfOk result (IsFollowed all 0) }
-        ensures width { IfOk result (λ followed. followed.grower.width ≡ width) }
+        ensures { (all : List LoggedReceipt) → IfOk result (IsFollowed all 0 width) }
     {
         Ok(ReplayState {
             totals: Weights::zero(width),
@@ -59,12 +58,11 @@ impl ReplayState {
         requires fitted { All (λ one. FitsWidth self.grower.width one.receipt.op) ordered.now }
         requires light { AreLight (ops_in ordered.now) }
         requires within { count ≤ length ordered.now }
-        requires followed { IsFollowed ordered.now count self }
+        requires followed { IsFollowed ordered.now count self.grower.width self }
         requires asked { query.now.value < self.grower.width }
         ensures answer { IfOk result
             (λ told. told.1 ≡ value_answer_of (profile_after (ops_in (take count ordered.now))) query.now) }
-        ensures followed { IfOk result (λ told. IsFollowed ordered.now count told.0) }
-        ensures width { IfOk result (λ told. told.0.grower.width ≡ self.grower.width) }
+        ensures followed { IfOk result (λ told. IsFollowed ordered.now count self.grower.width told.0) }
     {
         if asks_total(query) {
             let total = self.totals.value(query.value);
@@ -85,10 +83,9 @@ impl ReplayState {
         requires fitted { All (λ one. FitsWidth self.grower.width one.receipt.op) ordered.now }
         requires light { AreLight (ops_in ordered.now) }
         requires within { count ≤ length ordered.now }
-        requires followed { IsFollowed ordered.now count self }
-        ensures followed { IfOk result (IsFollowed ordered.now count) }
+        requires followed { IsFollowed ordered.now count self.grower.width self }
+        ensures followed { IfOk result (IsFollowed ordered.now count self.grower.width) }
         ensures tree { IfOk result (λ next. IsTreeOf (ops_in (take count ordered.now)) next.grower) }
-        ensures width { IfOk result (λ next. next.grower.width ≡ self.grower.width) }
     {
         let ReplayState {
             totals,
@@ -117,9 +114,8 @@ impl ReplayState {
         requires fitted { All (λ one. FitsWidth self.grower.width one.receipt.op) ordered.now }
         requires light { AreLight (ops_in ordered.now) }
         requires within { at < length ordered.now }
-        requires followed { IsFollowed ordered.now at self }
-        ensures followed { IfOk result (IsFollowed ordered.now (at + 1)) }
-        ensures width { IfOk result (λ next. next.grower.width ≡ self.grower.width) }
+        requires followed { IsFollowed ordered.now at self.grower.width self }
+        ensures { IfOk result (IsFollowed ordered.now (at + 1) self.grower.width) }
     {
         let ReplayState {
             totals,

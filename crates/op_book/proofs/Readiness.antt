@@ -5,7 +5,7 @@ use Rattle.profile_rows.specs.declared.weighted_stacks.WeightedStack.{WeightedSt
 use Rattle.profile_rows.specs.Values.{BatchState, rows_at}
 use Rattle.profile_rows.specs.Aggregate.{aggregate_of, aggregates_of, with_rows}
 use Rattle.call_tree.specs.State.{TreeState, weights_of}
-use Rattle.op_book.specs.Books.{BookState, HasSpaceFor, HasTurn, IsOrderly, IsReady, IsTreeAfter, change_told}
+use Rattle.op_book.specs.Books.{BookState, HasSpaceFor, HasTurn, IsBook, IsReady, IsTreeAfter, change_told}
 use Rattle.op_book.specs.Books.{receipt_after}
 use Rattle.op_book.specs.Runs.{AreChanges}
 use Rattle.op_book.specs.Changes.{change_op}
@@ -27,7 +27,7 @@ told_after entries op place changes change place_is = grind (arith, common_steps
 
 -- the book as it was, but for the nodes of its tree and its memory
 pub IsReady-made : (book : BookState) (tree : TreeState) (capacity session turn place : ℕ)
-    (entry : PlainEntry) (receipt : PlainReceipt) (op : PlainOp) (next : TreeState) → IsOrderly book
+    (entry : PlainEntry) (receipt : PlainReceipt) (op : PlainOp) (next : TreeState) → IsBook book
     → HasTurn book.entries book.limit book.sessions session turn
     → HasSpaceFor book op → is_change op ≡ true → length book.entries < capacity → IsTreeAfter book op next
     → entry ≡ record { session = session; turn = turn; op = op; reply = placed place }
@@ -40,8 +40,8 @@ pub IsReady-made : (book : BookState) (tree : TreeState) (capacity session turn 
       next = next;
     }) entry receipt
 IsReady-made book tree capacity
-    session turn place entry receipt op next orderly turn_is space change memory after entry_is receipt_is place_is =
-    let answer = plain_answer-change book.entries op orderly.changes change in
+    session turn place entry receipt op next kept turn_is space change memory after entry_is receipt_is place_is =
+    let answer = plain_answer-change book.entries op kept.journal.changes change in
     rw (entry_is, receipt_is, place_is) (record {
       taken = record { turn_is = turn_is; width = space.width; fits = space.fits };
       change = change;

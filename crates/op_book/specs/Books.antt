@@ -2,8 +2,8 @@
 use Rattle.std.specs.Prelude.{ℕ, ◌≡◌, ◌≢◌, ◌<◌, ◌≤◌, ◌+◌, ◌^◌, true, List, [], ◌∷◌, ◌++◌, length}
 use Rattle.profile_rows.specs.Aggregate.{aggregates_of}
 use Rattle.profile_rows.specs.Rows.{total_of}
-use Rattle.profile_rows.specs.Values.{rows_at}
-use Rattle.call_tree.specs.State.{TreeState, weights_of}
+use Rattle.profile_rows.specs.Values.{rows_at, value_of}
+use Rattle.call_tree.specs.State.{PlanState, TreeState, total_in, weights_of}
 use Rattle.op_book.specs.Operations.{FitsWidth, MissesWidth, PlainOp, PlainEntry, PlainReceipt, is_change}
 use Rattle.op_book.specs.Operations.{operations_of, placed, plain_answer, profile_after, rows_added}
 use Rattle.op_book.specs.Runs.{AreChanges, AreOfSessions, AreOfWidth, AreTurnsInOrder, IsLegalRun, KeepLimit, turns_of}
@@ -34,20 +34,40 @@ pub record IsReplay (entries : List PlainEntry) (tree : TreeState) : Type 0 wher
       → weights_of tree value ≡ aggregates_of (profile_after (operations_of entries)) value
   pub legal : IsLegalRun entries
 
--- the entries are changes of the book's sessions, 1 to 64, whose turns are in order, and of its width, 1 to 4, which
--- the tree has too; they keep the limit of weights at each time, and that of entries
-pub record IsOrderly (book : BookState) : Type 0 where
-  pub changes : AreChanges book.entries
-  pub turns : AreTurnsInOrder book.entries
-  pub known : AreOfSessions book.sessions book.entries
-  pub fitted : AreOfWidth book.width book.entries
-  pub wide : book.tree.width ≡ book.width
-  pub one : 0 < book.width
-  pub four : book.width ≤ 4
-  pub light : KeepLimit book.entries
+-- what every journal keeps: it is the replay of its entries, fewer than 2^32, which are changes of its sessions, 1 to
+-- 64, whose turns are in order, and of its width, 1 to 4, which the tree has too; they keep the limit of weights at
+-- each time
+pub record IsJournal (journal : JournalState) : Type 0 where
+  pub replay : IsReplay journal.entries journal.tree
+  pub changes : AreChanges journal.entries
+  pub turns : AreTurnsInOrder journal.entries
+  pub known : AreOfSessions journal.sessions journal.entries
+  pub fitted : AreOfWidth journal.width journal.entries
+  pub wide : journal.tree.width ≡ journal.width
+  pub one : 0 < journal.width
+  pub four : journal.width ≤ 4
+  pub light : KeepLimit journal.entries
+  pub small : length journal.entries < 2 ^ 32
+  pub some : 0 < journal.sessions
+  pub few : journal.sessions ≤ 64
+
+-- the journal that a book has so far
+abbrev pub journal_of : BookState → JournalState
+journal_of book =
+    record { entries = book.entries; tree = book.tree; sessions = book.sessions; width = book.width }
+
+-- what every book keeps: what its journal does, and the limit of entries
+pub record IsBook (book : BookState) : Type 0 where
+  pub journal : IsJournal (journal_of book)
   pub count : length book.entries ≤ book.limit
-  pub some : 0 < book.sessions
-  pub few : book.sessions ≤ 64
+
+-- a new book: it has no entries, and this limit, so many sessions and values
+pub record IsNewBook (limit sessions width : ℕ) (book : BookState) : Type 0 where
+  pub entries : book.entries ≡ []
+  pub limit_is : book.limit ≡ limit
+  pub sessions_are : book.sessions ≡ sessions
+  pub width_is : book.width ≡ width
+  pub kept : IsBook book
 
 -- the entry that an operation makes after those of a book
 abbrev pub entry_after : List PlainEntry → ℕ → ℕ → PlainOp → PlainEntry
@@ -152,6 +172,12 @@ IsFirstBookFault book session turn op (Heavy value held) = HasTurn book.entries 
 IsFirstBookFault book session turn op NoMemory = IsTaken book session turn op
 IsFirstBookFault book session turn op fault = IsTurnFault book.entries book.limit book.sessions session turn fault
 
+-- a book refused an operation as the turn of a session: it is as it was, and the fault is the first cause
+pub record IsChangeRefused (before : BookState) (session turn : ℕ) (op : PlainOp) (after : BookState)
+    (fault : BookFault) : Type 0 where
+  pub unchanged : IsSameBook before after
+  pub first_fault : IsFirstBookFault before session turn op fault
+
 -- a change that a book is ready for: the book as it was made ready, the session's turn and the operation, and the tree
 -- after it
 pub record ReadyState : Type 0 where
@@ -178,12 +204,34 @@ pub record IsReady (ready : ReadyState) (entry : PlainEntry) (receipt : PlainRec
   pub told_is : receipt ≡ change_told ready.op (length ready.before.entries)
   pub tree : IsTreeAfter ready.before ready.op ready.next
 
--- a book was prepared for a change as the turn of a session, and is this one now: nothing keeps it from the change
+-- a book was prepared for a change as the turn of a session, and is this one now, which holds what it held: nothing
+-- keeps it from the change
 pub record IsPrepared (before : BookState) (session turn : ℕ) (op : PlainOp) (after : BookState)
     (ready : ReadyState) : Type 0 where
   pub taken : IsTaken before session turn op
+  pub unchanged : IsSameBook before after
   pub now : ready.before ≡ after
   pub session_is : ready.session ≡ session
   pub turn_is : ready.turn ≡ turn
   pub op_is : ready.op ≡ op
   pub tree : IsTreeAfter before op ready.next
+
+-- the next tree of a book that was planned for an operation and has this tree now: nothing but its turn keeps the book
+-- from the operation
+pub record IsPlanned (before : BookState) (op : PlainOp) (tree : TreeState) (plan : PlanState) : Type 0 where
+  pub before_is : plan.before ≡ tree
+  pub next : IsTreeAfter before op plan.next
+  pub space : HasSpaceFor before op
+
+-- the entry and the receipt of a change at this place
+pub record IsJournalled (session turn : ℕ) (op : PlainOp) (place : ℕ) (entry : PlainEntry) (receipt : PlainReceipt)
+    : Type 0 where
+  pub entry_is : entry ≡ record { session = session; turn = turn; op = op; reply = placed place }
+  pub receipt_is : receipt ≡ change_told op place
+
+-- what all rows that count weigh, by each value, which is also what the tree weighs
+pub record AreTotals (book : BookState) (totals : List ℕ) : Type 0 where
+  pub width : length totals ≡ book.width
+  pub rows : (value : ℕ) → value_of value totals ≡ weight_so_far book value
+  pub tree : (value : ℕ) → value_of value totals ≡ total_in (weights_of book.tree value)
+  pub fits : (value : ℕ) → weight_so_far book value < 2 ^ 63

@@ -1,5 +1,5 @@
 -- What a ledger keeps beside its entries.
-use Rattle.std.specs.Prelude.{ℕ, ◌≡◌, ◌<◌, ◌≤◌, ◌^◌, List, get_or, length}
+use Rattle.std.specs.Prelude.{ℕ, ◌≡◌, ◌<◌, ◌≤◌, ◌^◌, List, [], get_or, length}
 use Rattle.op_book.specs.Operations.{PlainEntry}
 use Rattle.op_book.specs.Runs.{AreChanges, AreOfSessions, AreOfWidth, AreTurnsInOrder, IsLegalRun, KeepLimit, turns_of}
 
@@ -11,6 +11,13 @@ pub record LedgerState : Type 0 where
   pub sessions : ℕ
   pub width : ℕ
   pub capacity : ℕ
+
+-- a new ledger: it has no entries, and this limit, so many sessions and values
+pub record IsNewLedger (limit sessions width : ℕ) (ledger : LedgerState) : Type 0 where
+  pub entries : ledger.entries ≡ []
+  pub limit_is : ledger.limit ≡ limit
+  pub sessions_are : ledger.sessions ≡ sessions
+  pub width_is : ledger.width ≡ width
 
 -- the entries are changes of one profile, and those of each session are counted
 pub record IsLedger (entries : List PlainEntry) (limit width : ℕ) (turns : List ℕ) : Type 0 where

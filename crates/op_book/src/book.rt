@@ -1,11 +1,8 @@
 //! The book of a store: the journal so far, and the tree of what counts.
 
-ghost use Rattle.std.specs.Prelude.{◌≡◌, ◌<◌, ◌≤◌, ◌^◌, ℕ, [], length, IfOk};
-ghost use Rattle.call_tree.specs.State.{total_in, weights_of};
-ghost use Rattle.op_book.specs.Books.{IsOrderly, IsReplay, IsTreeAfter, weight_so_far};
-ghost use Rattle.op_book.specs.Operations.{reset};
+ghost use Rattle.std.specs.Prelude.{◌≡◌, ◌<◌, ◌≤◌, IfOk};
+ghost use Rattle.op_book.specs.Books.{AreTotals, IsBook, IsNewBook, IsTreeAfter, journal_of};
 ghost use Rattle.std.specs.Arc.{arc_value};
-ghost use Rattle.profile_rows.specs.Values.{value_of};
 
 use crate::entry::{Entry, Receipt};
 use crate::journal::Journal;
@@ -131,11 +128,7 @@ impl Book {
     pub fn new(alloc: Global, limit: u32, sessions: u32, width: Width) -> Result<Book, NoMemory>
         requires some { 0 < sessions }
         requires few { sessions ≤ 64 }
-        ensures entries { IfOk result (λ book. book.entries ≡ []) }
-        ensures limits { IfOk result (λ book. (book.limit ≡ limit) × (book.sessions ≡ sessions)) }
-        ensures width { IfOk result (λ book. book.width ≡ width) }
-        ensures replay { IfOk result (λ book. IsReplay book.entries book.tree) }
-        ensures orderly { IfOk result IsOrderly }
+        ensures { IfOk result (IsNewBook limit sessions width) }
     {
         Book::with_hashing(alloc, Hashing::fixed(), limit, sessions, width)
     }
@@ -154,11 +147,7 @@ impl Book {
     ) -> Result<Book, NoMemory>
         requires some { 0 < sessions }
         requires few { sessions ≤ 64 }
-        ensures entries { IfOk result (λ book. book.entries ≡ []) }
-        ensures limits { IfOk result (λ book. (book.limit ≡ limit) × (book.sessions ≡ sessions)) }
-        ensures width { IfOk result (λ book. book.width ≡ width) }
-        ensures replay { IfOk result (λ book. IsReplay book.entries book.tree) }
-        ensures orderly { IfOk result IsOrderly }
+        ensures { IfOk result (IsNewBook limit sessions width) }
     {
         let ledger = Ledger::new(alloc, limit, sessions, width)?;
         let grower = Grower::with_hashing(alloc, hashing, width)?;
@@ -168,8 +157,7 @@ impl Book {
     /// The tree of what counts.
     pub fn tree(&self) -> &CallTree
         ensures tree { result.now ≡ self.now.tree }
-        ensures replay { IsReplay self.now.entries self.now.tree }
-        ensures orderly { IsOrderly self.now }
+        ensures kept { IsBook self.now }
     {
         self.facts();
         self.grower.tree()
@@ -178,9 +166,7 @@ impl Book {
     /// The entries, in the order in which the changes were made.
     pub fn entries(&self) -> &[Entry]
         ensures entries { result.now ≡ self.now.entries }
-        ensures replay { IsReplay self.now.entries self.now.tree }
-        ensures orderly { IsOrderly self.now }
-        ensures small { length self.now.entries < 2 ^ 32 }
+        ensures kept { IsBook self.now }
     {
         self.facts();
         self.ledger.entries()
@@ -188,16 +174,14 @@ impl Book {
 
     /// The book closed: what it holds, to which nothing is added any more. Takes no memory.
     pub fn into_journal(self) -> Journal
-        ensures { result ≡ record
-            { entries = self.entries; tree = self.tree; sessions = self.sessions; width = self.width } }
+        ensures { result ≡ journal_of self }
     {
         Journal::new(self)
     }
 
     /// What every book keeps.
     fn facts(&self)
-        ensures replay { IsReplay self.now.entries self.now.tree }
-        ensures orderly { IsOrderly self.now }
+        ensures { IsBook self.now }
     {
         let _ = self.ledger.entries();
         let _ = self.grower.tree();
@@ -206,10 +190,7 @@ impl Book {
 
     /// What all rows that count weigh, by each value.
     fn totals(&self) -> Weights
-        ensures width { length result ≡ self.now.width }
-        ensures totals { (value : ℕ) → value_of value result ≡ weight_so_far self.now value }
-        ensures tree { (value : ℕ) → value_of value result ≡ total_in (weights_of self.now.tree value) }
-        ensures fits { (value : ℕ) → weight_so_far self.now value < 2 ^ 63 }
+        ensures { AreTotals self.now result }
     {
         sums_are_those_of_the_aggregate();
         self.grower.tree().total()
@@ -217,20 +198,15 @@ impl Book {
 
     /// How many values a row has.
     pub(crate) fn width(&self) -> Width
-        ensures width { result ≡ self.now.width }
-        ensures tree { result ≡ self.now.tree.width }
-        ensures orderly { IsOrderly self.now }
+        ensures { result ≡ self.now.width }
     {
-        self.facts();
         self.ledger.width()
     }
 
     /// How many sessions the book has.
     pub(crate) fn sessions(&self) -> u32
-        ensures sessions { result ≡ self.now.sessions }
-        ensures orderly { IsOrderly self.now }
+        ensures { result ≡ self.now.sessions }
     {
-        self.facts();
         self.ledger.sessions()
     }
 }

@@ -1,9 +1,8 @@
 //! What a closed book leaves.
 
-ghost use Rattle.std.specs.Prelude.{◌≡◌, ◌<◌, ◌≤◌, ◌^◌, length};
-ghost use Rattle.op_book.specs.Books.{IsReplay};
+ghost use Rattle.std.specs.Prelude.{◌≡◌};
+ghost use Rattle.op_book.specs.Books.{IsJournal, journal_of};
 ghost use Rattle.op_book.specs.Operations.{counting_from, operations_of};
-ghost use Rattle.op_book.specs.Runs.{AreChanges, AreOfSessions, AreOfWidth, AreTurnsInOrder, KeepLimit};
 
 use crate::book::Book;
 use crate::entry::Entry;
@@ -18,19 +17,17 @@ pub struct Journal {
 }
 
 impl Model for Journal {
-    ghost use Rattle.op_book.specs.Books.{JournalState};
+    ghost use Rattle.op_book.specs.Books.{JournalState, journal_of};
 
     ghost Value = { JournalState };
 
-    ghost view = { λ j. record
-        { entries = j.book.entries; tree = j.book.tree; sessions = j.book.sessions; width = j.book.width } };
+    ghost view = { λ j. journal_of j.book };
 }
 
 impl Journal {
     /// The journal of a book.
     pub(crate) fn new(book: Book) -> Journal
-        ensures { result ≡ record
-            { entries = book.entries; tree = book.tree; sessions = book.sessions; width = book.width } }
+        ensures { result ≡ journal_of book }
     {
         Journal { book }
     }
@@ -38,13 +35,7 @@ impl Journal {
     /// The entries, in the order in which the changes were made.
     pub fn entries(&self) -> &[Entry]
         ensures entries { result.now ≡ self.now.entries }
-        ensures replay { IsReplay self.now.entries self.now.tree }
-        ensures turns { AreTurnsInOrder self.now.entries }
-        ensures known { AreOfSessions self.now.sessions self.now.entries }
-        ensures fitted { AreOfWidth self.now.width self.now.entries }
-        ensures changes { AreChanges self.now.entries }
-        ensures count { length self.now.entries < 2 ^ 32 }
-        ensures light { KeepLimit self.now.entries }
+        ensures kept { IsJournal self.now }
     {
         self.book.entries()
     }
@@ -52,8 +43,7 @@ impl Journal {
     /// The tree of what counts.
     pub fn tree(&self) -> &CallTree
         ensures tree { result.now ≡ self.now.tree }
-        ensures wide { result.now.width ≡ self.now.width }
-        ensures replay { IsReplay self.now.entries self.now.tree }
+        ensures kept { IsJournal self.now }
     {
         self.book.tree()
     }
@@ -68,18 +58,18 @@ impl Journal {
     /// How many sessions the book had, whose numbers are from 0.
     pub fn sessions(&self) -> u32
         ensures sessions { result ≡ self.now.sessions }
-        ensures some { 0 < result }
-        ensures few { result ≤ 64 }
+        ensures kept { IsJournal self.now }
     {
+        let _ = self.book.entries();
         self.book.sessions()
     }
 
     /// How many values each row has.
     pub fn width(&self) -> Width
         ensures width { result ≡ self.now.width }
-        ensures some { 0 < result }
-        ensures few { result ≤ 4 }
+        ensures kept { IsJournal self.now }
     {
+        let _ = self.book.entries();
         self.book.width()
     }
 }

@@ -2,9 +2,8 @@
 
 ghost use Rattle.std.specs.Prelude.{ℕ, ◌≡◌, ◌<◌, ◌≤◌, ◌^◌, ◌++◌, ◌∷◌, [], true, length, IfOk, MatchResult, OnOk};
 ghost use Rattle.op_book.specs.Books.{HasTurn, IsTurnFault};
-ghost use Rattle.op_book.specs.Ledgers.{AreLedgerEntries};
+ghost use Rattle.op_book.specs.Ledgers.{AreLedgerEntries, IsNewLedger};
 ghost use Rattle.op_book.specs.Operations.{FitsWidth, is_change, operations_of, plain_answer, profile_after};
-ghost use Rattle.op_book.specs.Runs.{AreChanges, AreOfSessions, AreOfWidth, AreTurnsInOrder, IsLegalRun, KeepLimit};
 ghost use Rattle.profile_rows.specs.Rows.{total_of};
 ghost use Rattle.profile_rows.specs.Values.{rows_at};
 
@@ -51,9 +50,7 @@ impl Ledger {
     ) -> Result<Ledger, AllocError>
         requires some { 0 < sessions }
         requires few { sessions ≤ 64 }
-        ensures entries { IfOk result (λ ledger. ledger.entries ≡ []) }
-        ensures limits { IfOk result (λ ledger. (ledger.limit ≡ limit) × (ledger.sessions ≡ sessions)) }
-        ensures width { IfOk result (λ ledger. ledger.width ≡ width) }
+        ensures { IfOk result (IsNewLedger limit sessions width) }
     {
         let turns = vec![in alloc; 0; sessions as usize]?;
         Ok(Ledger {

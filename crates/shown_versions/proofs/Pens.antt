@@ -1,8 +1,8 @@
 -- The pens of a history.
-use Rattle.std.proofs.Common.{◌≡◌, ◌≢◌, ℕ, zero, suc, ◌<◌, ◌≤◌, List, [], ◌∷◌, ◌++◌, All, length, true, refl, ap, sym, ◌∙◌, subst, arith}
+use Rattle.std.proofs.Common.{◌≡◌, ◌≢◌, ℕ, zero, suc, ◌<◌, List, [], ◌∷◌, ◌++◌, All, length, true, refl, ap, sym, ◌∙◌, subst, arith}
 use Rattle.std.proofs.lemmas.List.Elements.{All-cons, All-head, All-nil, All-tail}
 use mathlib.Core.List.{IsPrefix}
-use Rattle.std.specs.Prelude.{slice_set, slice_index_or, false}
+use Rattle.std.specs.Prelude.{slice_set}
 use Rattle.logbook.specs.Pages.{Cell, cell}
 use Rattle.op_book.specs.Operations.{PlainEntry}
 use Rattle.shown_versions.specs.declared.history_rule.Line.{Line}

@@ -1,5 +1,5 @@
 -- The steps of a history keep its rule.
-use Rattle.std.proofs.Common.{◌≡◌, ◌≢◌, ℕ, ◌+◌, ◌<◌, ◌==◌, Bool, true, false, List, [], ◌∷◌, ◌++◌, All, length, refl, ap}
+use Rattle.std.proofs.Common.{◌≡◌, ◌≢◌, ℕ, ◌<◌, ◌==◌, Bool, true, false, List, [], ◌∷◌, ◌++◌, length, refl, ap}
 use Rattle.std.proofs.Common.{sym, subst, arith, inl, None, ◌∙◌, length-set}
 use Rattle.std.proofs.lemmas.List.{append-nil}
 use Rattle.std.proofs.lemmas.List.Elements.{All-nil}
@@ -10,7 +10,7 @@ use prog.Atomic.{either}
 use Rattle.logbook.specs.Pages.{Cell, Nib, cell, keeps, gives, adds, no_nib, may_write, step, Moves, Goes}
 use Rattle.shown_versions.specs.declared.history_rule.Line.{Line}
 use Rattle.shown_versions.specs.declared.history_rule.Line.TheVariants as line
-use Rattle.shown_versions.specs.Histories.{HasBegun, HasTakenPen, IsAdded, IsKept, IsUnused, next_pen, used_pens, word_of}
+use Rattle.shown_versions.specs.Histories.{HasBegun, HasTakenPen, IsAdded, IsKept, IsUnused, next_pen, used_pens}
 use Rattle.shown_versions.proofs.Pens.{all_more, at_more, home_within, set_again, set_other, set_same, used_with, whole_by, word_with}
 
 abbrev pub shown : List Line → List Line

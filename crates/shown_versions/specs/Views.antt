@@ -7,9 +7,19 @@ use Rattle.logbook.specs.Pages.{Book}
 use Rattle.flame_report.specs.Answers.{value_answer_of}
 use Rattle.flame_report.specs.declared.answer.Answer.{Answer}
 use Rattle.flame_report.specs.declared.query.Query.{Query}
+use Rattle.call_tree.specs.State.{TreeState}
+use Rattle.op_book.specs.Books.{IsReplay}
 use Rattle.op_book.specs.Operations.{PlainEntry, operations_of, profile_after}
+use Rattle.op_book.specs.Runs.{AreChanges, AreTurnsInOrder}
 use Rattle.shown_versions.specs.declared.known.KnownVersion.{KnownVersion}
 use Rattle.shown_versions.specs.declared.version_rule.View.{View}
+
+-- the tree of a version: the replay of its list of changes, in which the turns of each session are in order
+pub record IsTreeOfVersion (version : KnownVersion) (tree : TreeState) : Type 0 where
+  pub replay : IsReplay version.seen.log tree
+  pub turns : AreTurnsInOrder version.seen.log
+  pub changes : AreChanges version.seen.log
+  pub width_is : tree.width ≡ version.width
 
 abbrev pub newcomer : View
 newcomer = record { known = None }

@@ -52,8 +52,7 @@ impl NewHistory {
 
     /// The evidence of its list, which is empty.
     pub fn reached(&self) -> Reached
-        ensures log { result.log ≡ [] }
-        ensures history { result.book ≡ self.now }
+        ensures { result ≡ record { log = []; book = self.now } }
     {
         Reached {
             lines: self.lines.again(),

@@ -50,8 +50,7 @@ impl<N: StoreName> Front<N> {
 
     /// The evidence of the list.
     pub fn reached(&self) -> Reached
-        ensures log { result.log ≡ self.now }
-        ensures history { result.book ≡ N.history }
+        ensures { result ≡ record { log = self.now; book = N.history } }
     {
         self.seen.again()
     }

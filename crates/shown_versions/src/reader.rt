@@ -1,6 +1,6 @@
 //! A reader of versions that knows which store they are of.
 
-ghost use Rattle.std.specs.Prelude.{◌≡◌, ◌<◌, ◌⊎◌, IfErr, IfOk};
+ghost use Rattle.std.specs.Prelude.{◌≡◌, ◌<◌, ◌⊎◌, IfOk, MatchResult};
 ghost use Rattle.std.specs.Arc.{arc_value};
 ghost use Rattle.left_right.specs.Sides.{view as known};
 ghost use Rattle.op_book.specs.Books.{receipt_after};
@@ -42,8 +42,8 @@ fn answer_over<N: StoreName>(
 ) -> Result<(Answer, Front<N>), BookFault>
     requires value { (arc_value query.now).value < version.now.width }
     requires history { version.now.seen.book ≡ N.history }
-    ensures answer { IfOk result (λ made. IsAnswerAfter made.1 (arc_value query.now) made.0) }
-    ensures fault { IfErr result (λ fault. fault ≡ BookFault.NoMemory) }
+    ensures { MatchResult result (λ made. IsAnswerAfter made.1 (arc_value query.now) made.0)
+        (λ fault. fault ≡ BookFault.NoMemory) }
 {
     let answer = report(alloc, version.tree(), query)?;
     Ok((answer, Front::of(version.count(), version.seen())))
@@ -62,8 +62,7 @@ fn answer_entered<N: StoreName>(
     requires named { IsOf (known reader.place) N.history N.width }
     requires value { (arc_value query.now).value < N.width }
     ensures named { IsOf (known result.0.place) N.history N.width }
-    ensures answer { IfOk result.1 (λ made. IsAnswerAfter made.1 (arc_value query.now) made.0) }
-    ensures fault { IfErr result.1
+    ensures answer { MatchResult result.1 (λ made. IsAnswerAfter made.1 (arc_value query.now) made.0)
         (λ fault. (fault ≡ BookFault.NoMemory) ⊎ (fault ≡ BookFault.Version)) }
 {
     let reading = match reader.enter_as::<Sees>() {
@@ -108,9 +107,8 @@ impl<N: StoreName> VersionReader<N> {
     /// `Version` where no version could be entered; `NoMemory`.
     pub fn report(&mut self, alloc: Global, query: &Arc<Query>) -> Result<SeenReport<N>, BookFault>
         requires { (arc_value query.now).value < N.width }
-        ensures receipt { IfOk result
-            (λ made. made.receipt ≡ receipt_after made.front (ask (arc_value query.now))) }
-        ensures fault { IfErr result
+        ensures { MatchResult result
+            (λ made. made.receipt ≡ receipt_after made.front (ask (arc_value query.now)))
             (λ fault. (fault ≡ BookFault.NoMemory) ⊎ (fault ≡ BookFault.Version)) }
     {
         let (answer, front) = replace_with(

@@ -4,6 +4,7 @@ ghost use Rattle.std.specs.Prelude.{◌≡◌, length, IfOk};
 ghost use Rattle.std.specs.Arc.{arc_value};
 ghost use Rattle.op_book.specs.Books.{IsReplay};
 ghost use Rattle.op_book.specs.Runs.{AreChanges, AreTurnsInOrder};
+ghost use Rattle.shown_versions.specs.Views.{IsTreeOfVersion};
 
 use crate::reached::Reached;
 use call_tree::CallTree;
@@ -42,8 +43,7 @@ impl Version {
         requires replay { IsReplay seen.log (arc_value tree) }
         requires turns { AreTurnsInOrder seen.log }
         requires changes { AreChanges seen.log }
-        ensures seen { result.seen ≡ seen }
-        ensures width { result.width ≡ (arc_value tree).width }
+        ensures { result ≡ record { seen = seen; width = (arc_value tree).width } }
     {
         Version { count, tree, seen }
     }
@@ -69,8 +69,7 @@ impl Version {
     ///
     /// `AllocError` where the tree has as many owners as it can have. Takes no memory.
     pub fn share_tree(&self) -> Result<Arc<CallTree>, AllocError>
-        ensures replay { IfOk result (λ tree. IsReplay self.now.seen.log (arc_value tree)) }
-        ensures width { IfOk result (λ tree. (arc_value tree).width ≡ self.now.width) }
+        ensures { IfOk result (λ tree. IsTreeOfVersion self.now (arc_value tree)) }
     {
         Arc::try_clone(&self.tree)
     }
@@ -91,10 +90,7 @@ impl Version {
 
     /// The tree after the changes.
     pub fn tree(&self) -> &CallTree
-        ensures replay { IsReplay self.now.seen.log result.now }
-        ensures turns { AreTurnsInOrder self.now.seen.log }
-        ensures changes { AreChanges self.now.seen.log }
-        ensures width { result.now.width ≡ self.now.width }
+        ensures { IsTreeOfVersion self.now result.now }
     {
         &self.tree
     }

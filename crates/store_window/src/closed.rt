@@ -43,7 +43,6 @@ impl ClosedWindow {
         }
         audit(alloc, &self.journal, self.logs.as_slice())?;
         logs_add_up();
-        let _ = self.journal.width();
         Ok(self.journal.tree())
     }
 }

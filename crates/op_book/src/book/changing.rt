@@ -1,11 +1,12 @@
 //! How a book changes: at once, or by a change that is prepared and then settled.
 
-ghost use Rattle.std.specs.Prelude.{◌≡◌, ◌≢◌, ◌+◌, ◌<◌, ◌^◌, ℕ, length, IfErr, IfOk, OnErr, OnOk};
+ghost use Rattle.std.specs.Prelude.{◌≡◌, ◌≢◌, ◌+◌, ◌<◌, ◌^◌, ℕ, IfErr, IfOk, MatchResult, OnOk};
 ghost use Rattle.std.specs.Arc.{arc_value};
 ghost use Rattle.call_tree.specs.State.{total_in, weights_of};
-ghost use Rattle.op_book.specs.Books.{HasSpaceFor, IsFirstBookFault, IsMade, IsOrderly, IsPrepared, IsReplay, IsSameBook, IsSpaceFault, IsTreeAfter, change_told};
+ghost use Rattle.op_book.specs.Books.{HasSpaceFor, IsBook, IsChangeRefused, IsJournalled, IsMade, IsPlanned};
+ghost use Rattle.op_book.specs.Books.{IsPrepared, IsSameBook, IsSpaceFault};
 ghost use Rattle.op_book.specs.Changes.{change_op};
-ghost use Rattle.op_book.specs.Operations.{add, placed, plain_op, reset};
+ghost use Rattle.op_book.specs.Operations.{add, plain_op, reset};
 ghost use Rattle.profile_rows.specs.Rows.{total_of};
 ghost use Rattle.profile_rows.specs.Values.{rows_at};
 
@@ -56,13 +57,10 @@ impl Book {
         turn: u64,
         batch: Arc<Batch>,
     ) -> Result<Receipt, Refused<Arc<Batch>>>
-        ensures made { IfOk result (IsMade self.old session turn (add (arc_value batch)) self.new) }
-        ensures unchanged { OnErr result (IsSameBook self.old self.new) }
+        ensures made { MatchResult result (IsMade self.old session turn (add (arc_value batch)) self.new)
+            (λ refused. IsChangeRefused self.old session turn (add (arc_value batch)) self.new refused.fault) }
         ensures back { IfErr result (λ refused. refused.back ≡ batch) }
-        ensures first_fault { IfErr result
-            (λ refused. IsFirstBookFault self.old session turn (add (arc_value batch)) refused.fault) }
-        ensures replay { IsReplay self.new.entries self.new.tree }
-        ensures orderly { IsOrderly self.new }
+        ensures kept { IsBook self.new }
     {
         let added = self.add_rows(alloc, session, turn, &batch);
         self.facts();
@@ -80,12 +78,10 @@ impl Book {
     /// The first [`BookFault`], which is neither `Width` nor `Heavy`: `NoMemory` only where there is no other. The book
     /// is then as it was.
     pub fn reset(&mut self, alloc: Global, session: u32, turn: u64) -> Result<Receipt, BookFault>
-        ensures made { IfOk result (IsMade self.old session turn reset self.new) }
-        ensures unchanged { OnErr result (IsSameBook self.old self.new) }
-        ensures first_fault { IfErr result (λ fault. IsFirstBookFault self.old session turn reset fault) }
+        ensures made { MatchResult result (IsMade self.old session turn reset self.new)
+            (IsChangeRefused self.old session turn reset self.new) }
         ensures light { IfErr result (λ fault. (value held : ℕ) → fault ≢ BookFault.Heavy value held) }
-        ensures replay { IsReplay self.new.entries self.new.tree }
-        ensures orderly { IsOrderly self.new }
+        ensures kept { IsBook self.new }
     {
         let ready = self.prepare(alloc, session, turn, Change::Reset)?;
         Ok(self.settle(ready))
@@ -104,14 +100,10 @@ impl Book {
         turn: u64,
         change: Change<'_>,
     ) -> Result<Ready, BookFault>
-        ensures ready { IfOk result (IsPrepared self.old session turn (change_op change.entry) self.new) }
-        ensures unchanged { IsSameBook self.old self.new }
-        ensures first_fault { IfErr result
-            (λ fault. IsFirstBookFault self.old session turn (change_op change.entry) fault) }
-        ensures replay { IsReplay self.new.entries self.new.tree }
-        ensures orderly { IsOrderly self.new }
+        ensures ready { MatchResult result (IsPrepared self.old session turn (change_op change.entry) self.new)
+            (IsChangeRefused self.old session turn (change_op change.entry) self.new) }
+        ensures kept { IsBook self.new }
     {
-        self.facts();
         let ready = self.ready(alloc, session, turn, change);
         self.facts();
         ready
@@ -123,8 +115,7 @@ impl Book {
         requires { ready.before ≡ self.old }
         ensures made { IsMade self.old ready.session ready.turn ready.op self.new result }
         ensures tree { self.new.tree ≡ ready.next }
-        ensures replay { IsReplay self.new.entries self.new.tree }
-        ensures orderly { IsOrderly self.new }
+        ensures kept { IsBook self.new }
     {
         let Ready {
             plan,
@@ -147,10 +138,8 @@ impl Book {
         turn: u64,
         batch: &Arc<Batch>,
     ) -> Result<Receipt, BookFault>
-        ensures made { IfOk result (IsMade self.old session turn (add (arc_value batch.now)) self.new) }
-        ensures unchanged { OnErr result (IsSameBook self.old self.new) }
-        ensures first_fault { IfErr result
-            (λ fault. IsFirstBookFault self.old session turn (add (arc_value batch.now)) fault) }
+        ensures { MatchResult result (IsMade self.old session turn (add (arc_value batch.now)) self.new)
+            (IsChangeRefused self.old session turn (add (arc_value batch.now)) self.new) }
     {
         self.facts();
         self.ledger.admit(session, turn)?;
@@ -172,10 +161,8 @@ impl Book {
         turn: u64,
         change: Change<'_>,
     ) -> Result<Ready, BookFault>
-        ensures ready { IfOk result (IsPrepared self.old session turn (change_op change.entry) self.new) }
-        ensures unchanged { IsSameBook self.old self.new }
-        ensures first_fault { IfErr result
-            (λ fault. IsFirstBookFault self.old session turn (change_op change.entry) fault) }
+        ensures { MatchResult result (IsPrepared self.old session turn (change_op change.entry) self.new)
+            (IsChangeRefused self.old session turn (change_op change.entry) self.new) }
     {
         self.facts();
         self.ledger.admit(session, turn)?;
@@ -193,11 +180,9 @@ impl Book {
 
     /// The tree after a change of the book's width that keeps the limit of each value.
     fn plan(&mut self, alloc: Global, change: Change<'_>) -> Result<Plan, BookFault>
-        ensures before { IfOk result (λ plan. plan.before ≡ self.new.tree) }
-        ensures next { IfOk result (λ plan. IsTreeAfter self.old (change_op change.entry) plan.next) }
-        ensures space { OnOk result (HasSpaceFor self.old (change_op change.entry)) }
+        ensures planned { MatchResult result (IsPlanned self.old (change_op change.entry) self.new.tree)
+            (IsSpaceFault self.old (change_op change.entry)) }
         ensures unchanged { IsSameBook self.old self.new }
-        ensures fault { IfErr result (IsSpaceFault self.old (change_op change.entry)) }
     {
         match change {
             Change::Add(batch) => {
@@ -214,12 +199,12 @@ impl Book {
 
     /// Whether a batch has the book's width and keeps the limit of each value.
     fn check_batch(&self, batch: &Batch) -> Result<(), BookFault>
-        ensures space { OnOk result (HasSpaceFor self.now (add batch.now)) }
+        ensures space { MatchResult result (λ _. HasSpaceFor self.now (add batch.now))
+            (IsSpaceFault self.now (add batch.now)) }
         ensures tree { OnOk result ((value : ℕ)
             → total_in (weights_of self.now.tree value) + total_of (rows_at value batch.now.rows) < 2 ^ 63) }
-        ensures fault { IfErr result (IsSpaceFault self.now (add batch.now)) }
-        ensures memory { IfErr result (λ fault. fault ≢ BookFault.NoMemory) }
     {
+        self.facts();
         let width = self.width();
         if batch.width() != width {
             return Err(BookFault::Width { held: width.get() });
@@ -242,9 +227,7 @@ fn journalled(
     change: Change<'_>,
     place: u64,
 ) -> Result<(Entry, Receipt), AllocError>
-    ensures entry { IfOk result (λ made. made.0 ≡ record
-        { session = session; turn = turn; op = change_op change.entry; reply = placed place }) }
-    ensures receipt { IfOk result (λ made. made.1 ≡ change_told (change_op change.entry) place) }
+    ensures { IfOk result (λ made. IsJournalled session turn (change_op change.entry) place made.0 made.1) }
 {
     let kept = change.op()?;
     let entry = Entry {

@@ -20,14 +20,15 @@ returns c = λ batch width worked.
     let journal : JournalState = c.args.journal.now in
     let warm : Option BatchState = cond options.warm (Some batch) None in
     let run : List PlainStep = c.in_ok-run.run' in
-    let matched : LogsMatch journal logs = (c.in_ok-run.ensures.first).0 in
-    let once : IsPermutation (steps_in logs) run = c.in_ok-run.ensures.each_receipt_once in
+    let matched : LogsMatch journal logs = c.in_ok-run.ensures.audited.matched in
+    let once : IsPermutation (steps_in logs) run = c.in_ok-run.ensures.audited.each_receipt_once in
     let changes : filter is_change (map (λ (step : PlainStep). step.op) run) ≡ operations_of journal.entries =
-    c.in_ok-run.ensures.changes in
+    c.in_ok-run.ensures.audited.changes in
     let warmed = warmed_if journal batch options.warm warm logs worked.lists matched worked.told refl
     c.in_ok-check_warm.ensures in
-    let replay : IsReplay journal.entries journal.tree = c.tree.ensures.replay in
+    let replay : IsReplay journal.entries journal.tree = c.tree.ensures.kept.replay in
     let tree : c.tree.result.now ≡ journal.tree = c.tree.ensures.tree in
+    let wide = ap (λ (t : TreeState). t.width) tree ∙ c.tree.ensures.kept.wide in
     let all : (value : ℕ) → aggregate_of (rows_at value batch.rows) ≡ weights_of c.tree.result.now value =
     λ value. c.aggregate_is_by_weights.ensures
     (rows_at value batch.rows) (rows_at value (profile_after (operations_of journal.entries)))
@@ -40,5 +41,5 @@ returns c = λ batch width worked.
     ∙ run_counts batch options warm worked.lists logs run worked.dealt worked.told once refl in
     c.in_ok-push_count.ensures
     ∙ ap (λ text. text ++ count_line (length c.steps-operations.result.now))
-    (c.in_ok-text.ensures batch (width ∙ sym c.tree.ensures.wide) all ∙ ap (λ b. reports_of b batch) c.all.ensures)
+    (c.in_ok-text.ensures batch (width ∙ sym wide) all ∙ ap (λ b. reports_of b batch) c.all.ensures)
     ∙ ap (λ n. reports_of options.all batch ++ count_line n) count

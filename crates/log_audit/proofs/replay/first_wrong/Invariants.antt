@@ -1,7 +1,5 @@
-use Rattle.std.proofs.Common.{◌≡◌}
 use Rattle.log_audit.specs.Replays.{IsFollowed, IsLowestOf}
 use Rattle.log_audit.proofs.replay.first_wrong.Given as goal
 
 abbrev pub invariant-loop-at : goal.invariant-loop-at
-invariant-loop-at l = (l.followed.grower.width ≡ l.fn.width) × IsFollowed l.ordered l.at l.followed
-    × IsLowestOf l.ordered l.at l.lowest
+invariant-loop-at l = IsFollowed l.ordered l.at l.fn.width l.followed × IsLowestOf l.ordered l.at l.lowest

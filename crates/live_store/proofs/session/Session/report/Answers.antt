@@ -16,7 +16,7 @@ invariant_of-self-2 g c =
     let caught = c.if-not-catch_up.ensures in
     let more : IsBorneOut n log seen = borne_more n log s.front seen
     (caught_up s.front seen c.in-Ok.made.front caught) c.self.invariant.1 in
-    let receipt = c.in-Ok.ensures.receipt ∙ ap (λ (l : List PlainEntry). receipt_after l (ask q)) (sym caught.0) in
+    let receipt = c.in-Ok.ensures ∙ ap (λ (l : List PlainEntry). receipt_after l (ask q)) (sym caught.0) in
     let items : c.keep_report.new.self.receipts.items ≡ log ++ receipt_after seen (ask q) ∷ [] =
     c.keep_report.ensures.log
     ∙ (ap (λ l. l ++ c.in-Ok.made.receipt ∷ []) c.make_room.ensures.same ∙ ap (λ r. log ++ r ∷ []) receipt) in

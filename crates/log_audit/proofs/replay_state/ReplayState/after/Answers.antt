@@ -17,14 +17,14 @@ plus-requires-clause-fits c = λ value.
     let light = total_after-light all c.requires.light (c.args.at + 1) value in
     omega (arith, next, light, c.requires.followed.totals value, c.total.ensures.totals.each value)
 
-pub returns-in-Add-clause-followed : goal.returns-in-Add-clause-followed
-returns-in-Add-clause-followed c = search (rules, total_after-add)
+pub returns-in-Add : goal.returns-in-Add
+returns-in-Add c = search (rules, total_after-add)
 
-pub returns-in_ok-emptied-in-Reset-clause-followed : goal.returns-in_ok-emptied-in-Reset-clause-followed
-returns-in_ok-emptied-in-Reset-clause-followed c = search (rules, profile_after-resets)
+pub returns-in_ok-emptied-in-Reset : goal.returns-in_ok-emptied-in-Reset
+returns-in_ok-emptied-in-Reset c = search (rules, profile_after-resets)
 
-pub returns-in-Ask-clause-followed : goal.returns-in-Ask-clause-followed
-returns-in-Ask-clause-followed c =
+pub returns-in-Ask : goal.returns-in-Ask
+returns-in-Ask c =
     let all = c.args.ordered.now in
     let one = c.index-ordered-at.result in
     let query = arc_value c.in-Ask.field-0 in
@@ -33,7 +33,8 @@ returns-in-Ask-clause-followed c =
     let before = c.requires.followed in record {
       totals = λ value. before.totals value
           ∙ sym (total_after-ask all c.args.at one query c.requires.within c.index-ordered-at.is op value);
-      width = before.width;
+      width_is = before.width_is;
+      wide = before.wide;
       grown = omega (arith, before.grown);
       tree = before.tree;
     }

@@ -33,7 +33,7 @@ invariant_of-self-2 c =
     let batch = arc_value c.args.batch.now in
     let entries : c.reserve.new.self.entries ≡ c.self.inside.ledger.entries =
     ap (λ (l : LedgerState). l.entries) c.in_ok-reserve.ensures.same in
-    let op_is : c.in_ok-entry.entry.op ≡ add batch = ap (λ (e : PlainEntry). e.op) c.in_ok-entry.ensures.entry in
+    let op_is : c.in_ok-entry.entry.op ≡ add batch = ap (λ (e : PlainEntry). e.op) c.in_ok-entry.ensures.entry_is in
     let operations : operations_of c.append.new.self.entries
     ≡ operations_of c.self.inside.ledger.entries ++ add batch ∷ [] =
     ap (λ (l : LedgerState). operations_of l.entries) c.append.ensures
@@ -49,8 +49,8 @@ invariant_of-self-2 c =
       λ value. after.aggregate value ∙ ap (λ ops. aggregates_of (profile_after ops) value) (sym operations),
     )
 
-pub returns-clause-made : goal.returns-clause-made
-returns-clause-made c =
+pub returns : goal.returns
+returns c =
     let batch = arc_value c.args.batch.now in
     let same : c.append.new.self ≡ record c.reserve.new.self {
       entries =
@@ -60,9 +60,9 @@ returns-clause-made c =
     c.in_ok-reserve.ensures.same ∙ ap (λ (b : BookState). b.entries) c.self.view_is in
     let place : c.len-place.result ≡ length c.args.self.now.entries = c.len-place.ensures ∙ ap length entries in
     let told =
-    told_after c.args.self.now.entries (add batch) c.len-place.result c.facts.ensures.orderly.changes refl place in
+    told_after c.args.self.now.entries (add batch) c.len-place.result c.facts.ensures.journal.changes refl place in
     let entry_is : c.in_ok-entry.entry ≡ entry_after c.args.self.now.entries c.args.session c.args.turn (add batch) =
-    c.in_ok-entry.ensures.entry
+    c.in_ok-entry.ensures.entry_is
     ∙ (λ i. record { session = c.args.session; turn = c.args.turn; op = add batch; reply = (told i).reply }) in
     record {
       taken = grind (arith, common_steps);
@@ -75,6 +75,6 @@ returns-clause-made c =
         width = ap (λ (l : LedgerState). l.width) same ∙ ap (λ (l : LedgerState). l.width)
             c.in_ok-reserve.ensures.same ∙ ap (λ (b : BookState). b.width) c.self.view_is;
       };
-      receipt_is = c.in_ok-entry.ensures.receipt ∙ told;
-      told = c.in_ok-entry.ensures.receipt ∙ ap (change_told (add batch)) place;
+      receipt_is = c.in_ok-entry.ensures.receipt_is ∙ told;
+      told = c.in_ok-entry.ensures.receipt_is ∙ ap (change_told (add batch)) place;
     }

@@ -31,6 +31,6 @@ invariant_of-result c =
     rw (entries, limit, sessions, width)
     (IsReady-made book c.in_ok-plan.plan.before c.of.result.value.capacity c.args.session c.args.turn c.len-place.result
     c.in_ok-entry.entry c.in_ok-entry.receipt (change_op c.args.change) c.in_ok-plan.plan.next
-    c.facts.ensures.orderly turn c.in_ok-plan.ensures.space
-    (change_op-is_change c.args.change) memory_is c.in_ok-plan.ensures.next
-    c.in_ok-entry.ensures.entry c.in_ok-entry.ensures.receipt place)
+    c.facts.ensures turn c.in_ok-plan.ensures.planned.space
+    (change_op-is_change c.args.change) memory_is c.in_ok-plan.ensures.planned.next
+    c.in_ok-entry.ensures.entry_is c.in_ok-entry.ensures.receipt_is place)

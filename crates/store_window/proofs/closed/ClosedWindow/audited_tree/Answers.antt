@@ -21,10 +21,8 @@ all_counts logs =
 
 pub returns-clause-wide : goal.returns-clause-wide
 returns-clause-wide c =
-    let wide = c.tree.ensures.wide in
-    let width = c.width.ensures.width in
-    let some = c.width.ensures.some in
-    omega (arith, wide, width, some)
+    let wide = ap (λ (tree : TreeState). tree.width) c.tree.ensures.tree in
+    omega (arith, wide, c.tree.ensures.kept.wide, c.tree.ensures.kept.one)
 
 pub returns-clause-sums : goal.returns-clause-sums
 returns-clause-sums c value =
@@ -33,9 +31,10 @@ returns-clause-sums c value =
     let logs : List SessionLog = c.args.self.now.logs.items in
     let told : rows_logged (counting_from operations) logs ≡ rows_added_by logs =
     ap (λ n. rows_logged n logs) begins ∙ all_counts logs in
-    let audited = rw c.as_slice.ensures.value at c.in_ok-audit.ensures in
+    let first = rw c.as_slice.ensures.value at c.in_ok-audit.ensures in
+    let audited = first.audited in
     let sums = c.logs_add_up.ensures logs c.in_ok-audit.field-0 operations
     audited.each_receipt_once audited.legal audited.changes value in
-    let replay : IsReplay c.args.self.now.journal.entries c.args.self.now.journal.tree = c.tree.ensures.replay in
+    let replay : IsReplay c.args.self.now.journal.entries c.args.self.now.journal.tree = c.tree.ensures.kept.replay in
     ap (λ (rows : List Row). aggregate_of (rows_at value rows)) (sym told)
     ∙ sums ∙ sym (replay.aggregate value) ∙ ap (λ (tree : TreeState). weights_of tree value) (sym c.tree.ensures.tree)

@@ -2,10 +2,9 @@
 //! report needs one.
 
 ghost use Rattle.std.specs.Prelude.{ℕ, ◌≡◌, ◌<◌, ◌≤◌, ◌+◌, ◌^◌, ◌++◌, ◌∷◌, [], IsTrue, All, List, length, take, IfOk};
-ghost use Rattle.std.specs.FinMap as map;
 ghost use Rattle.profile_rows.specs.Rows.{total_of};
 ghost use Rattle.profile_rows.specs.Values.{Row, rows_at};
-ghost use Rattle.call_tree.specs.State.{weights_of};
+ghost use Rattle.call_tree.specs.Plans.{IsEmptyTree};
 ghost use Rattle.flame_report.specs.Answers.{value_answer_of};
 ghost use Rattle.flame_report.specs.declared.answer.Answer.TheVariants as answers;
 ghost use Rattle.log_audit.specs.Matching.{LoggedReceipt};
@@ -174,8 +173,7 @@ fn with_operation(grower: Grower, alloc: Global, op: &Op) -> Result<Grower, NoMe
 
 /// The grower with nothing in its tree.
 fn emptied(grower: Grower, alloc: Global) -> Result<Grower, NoMemory>
-    ensures weights { IfOk result (λ next. (value : ℕ) → weights_of next value ≡ map.empty) }
-    ensures width { IfOk result (λ next. next.width ≡ grower.width) }
+    ensures { IfOk result (IsEmptyTree grower.width) }
 {
     let mut next = grower;
     let plan = next.plan_reset(alloc)?;

@@ -2,8 +2,9 @@
 use Rattle.std.proofs.lemmas.Grind.{common_steps}
 use Rattle.std.proofs.Common.{arith, ◌≡◌, ◌<◌, ℕ, true, List, ◌++◌, length, sym, refl}
 use Rattle.profile_rows.specs.declared.weighted_stacks.WeightedStack.{WeightedStack}
-use Rattle.profile_rows.specs.Values.{BatchState, rows_at}
+use Rattle.profile_rows.specs.Values.{BatchState}
 use Rattle.profile_rows.specs.Aggregate.{aggregate_of, aggregates_of, with_rows}
+use Rattle.call_tree.specs.Plans.{HasAdded}
 use Rattle.call_tree.specs.State.{TreeState, weights_of}
 use Rattle.op_book.specs.Books.{BookState, HasSpaceFor, HasTurn, IsBook, IsReady, IsTreeAfter, change_told}
 use Rattle.op_book.specs.Books.{receipt_after}
@@ -56,7 +57,6 @@ IsReady-made book tree capacity
 pub IsTreeAfter-added : (book : BookState) (next : TreeState) (batch : BatchState) → book.tree.width ≡ book.width
     → ((value : ℕ) → weights_of book.tree value ≡ aggregates_of (profile_after (operations_of book.entries)) value)
     → ((rows more : List WeightedStack) → aggregate_of (rows ++ more) ≡ with_rows (aggregate_of rows) more)
-    → next.width ≡ book.tree.width
-    → ((value : ℕ) → weights_of next value ≡ with_rows (weights_of book.tree value) (rows_at value batch.rows))
+    → HasAdded book.tree next batch
     → IsTreeAfter book (add batch) next
-IsTreeAfter-added book next batch wide held more width weights = grind (arith, common_steps, profile_at-push)
+IsTreeAfter-added book next batch wide held more added = grind (arith, common_steps, profile_at-push)

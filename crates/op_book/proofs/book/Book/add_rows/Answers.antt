@@ -1,10 +1,10 @@
 -- The journal and the tree with an addition more.
 use Rattle.std.proofs.lemmas.Grind.{common_steps}
-use Rattle.std.proofs.Common.{◌≡◌, [], ◌∷◌, ◌++◌, length, refl, sym, ap, ◌∙◌, arith}
+use Rattle.std.proofs.Common.{◌≡◌, [], ◌∷◌, ◌++◌, length, refl, sym, ap, ◌∙◌, subst, arith}
 use Rattle.std.specs.Arc.{arc_value}
-use Rattle.profile_rows.specs.Values.{BatchState, rows_at}
-use Rattle.profile_rows.specs.Aggregate.{aggregates_of, with_rows}
-use Rattle.call_tree.specs.State.{TreeState, weights_of}
+use Rattle.profile_rows.specs.Aggregate.{aggregates_of}
+use Rattle.call_tree.specs.Plans.{HasAdded}
+use Rattle.call_tree.specs.State.{TreeState}
 use Rattle.op_book.specs.Books.{BookState, change_told, entry_after}
 use Rattle.op_book.specs.Ledgers.{LedgerState}
 use Rattle.op_book.specs.Operations.{PlainEntry, add, operations_of, profile_after}
@@ -43,8 +43,7 @@ invariant_of-self-2 c =
     c.append.ensures ∙ ap (λ (l : LedgerState). l.width) c.in_ok-reserve.ensures.same in
     let after = IsTreeAfter-added (book_of c.self.inside.ledger c.self.inside.grower)
     c.add.new.self batch c.self.invariant.0 c.self.invariant.1 c.aggregate_of_more_rows.ensures
-    c.in_ok-add.ensures.width (λ value. c.in_ok-add.ensures.weights value ∙ ap (λ (b : BatchState). with_rows
-    (weights_of c.self.inside.grower value) (rows_at value b.rows)) c.deref-2.ensures) in (
+    (subst (HasAdded c.self.inside.grower c.add.new.self) c.deref-2.ensures c.in_ok-add.ensures.added) in (
       after.width ∙ sym width,
       λ value. after.aggregate value ∙ ap (λ ops. aggregates_of (profile_after ops) value) (sym operations),
     )

@@ -26,7 +26,7 @@ returns-in_ok-plan-in-Add-clause-planned c =
     let after : IsTreeAfter c.args.self.now (add batch) next =
     subst (λ (book : BookState). IsTreeAfter book (add batch) next) c.self.view_is
     (IsTreeAfter-added _ next batch c.self.invariant.0 c.self.invariant.1
-    c.aggregate_of_more_rows.ensures c.in_ok-plan-in-Add.ensures.next_width c.in_ok-plan-in-Add.ensures.next) in
+    c.aggregate_of_more_rows.ensures c.in_ok-plan-in-Add.ensures.planned.1) in
     let added = subst (λ (change : Change). IsTreeAfter c.args.self.now (change_op change) next) (sym c.in-Add.is)
     (subst (λ (b : BatchState). IsTreeAfter c.args.self.now (add b) next) same after) in
     record { before_is = grind (arith, common_steps); next = added; space = grind (arith, common_steps) }

@@ -1,7 +1,9 @@
 -- The tokens of a layout's JSON text, for private clauses.
-use Rattle.std.specs.Prelude.{ℕ, List, [], ◌∷◌, ◌++◌, codes}
+use Rattle.std.specs.Prelude.{ℕ, ◌≡◌, List, [], ◌∷◌, ◌++◌, OnOk, Result, codes}
 use Rattle.std.specs.List.{flat_map}
 use Rattle.std.specs.Fmt.{decimal}
+use Rattle.std.specs.declared.alloc.AllocError.{AllocError}
+use Rattle.json.specs.Written.{Written}
 use Rattle.json.specs.Token.{Token, begin_object, end_object, begin_array, end_array, key, string, number}
 use Rattle.flame_report.specs.declared.answer.Flame.{Flame}
 use Rattle.flame_report.specs.declared.answer.Rect.{Rect}
@@ -24,3 +26,9 @@ flame_tokens flame =
     begin_object ∷ (member_token (codes "columns") flame.columns
     ++ (key (codes "rects") ∷ begin_array ∷ (rects_tokens flame.rects
     ++ (end_array ∷ (member_token (codes "total") flame.total ++ end_object ∷ [])))))
+
+-- a writer goes on in its text, to which these tokens were added where memory didn't run out
+pub record AddsTokens (old new : Written) (tokens : List Token) (result : Result (Unit {0}) AllocError)
+    : Type 0 where
+  pub before : new.before ≡ old.before
+  pub added : OnOk result (new.tokens ≡ old.tokens ++ tokens)

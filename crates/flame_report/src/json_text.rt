@@ -1,9 +1,9 @@
 //! The layout of a flame graph as JSON, written token by token.
 
-ghost use Rattle.std.specs.Prelude.{◌≡◌, ◌++◌, IfOk, OnOk, string_bytes};
+ghost use Rattle.std.specs.Prelude.{◌≡◌, IfOk, string_bytes};
 ghost use Rattle.std.specs.Str.{IsUtf8};
 ghost use Rattle.flame_report.specs.Json.{flame_json_of};
-ghost use Rattle.flame_report.specs.Tokens.{flame_tokens, member_token, rect_tokens, rects_tokens};
+ghost use Rattle.flame_report.specs.Tokens.{AddsTokens, flame_tokens, member_token, rect_tokens, rects_tokens};
 
 use crate::answer::{Flame, Rect};
 use json::Writer;
@@ -12,8 +12,7 @@ use std::alloc::{AllocError, Global};
 
 /// Adds a member that is a number.
 fn write_count(out: &mut Writer, key: &str, count: u64) -> Result<(), AllocError>
-    ensures before { out.new.before ≡ out.old.before }
-    ensures tokens { OnOk result (out.new.tokens ≡ out.old.tokens ++ member_token key.now count) }
+    ensures { AddsTokens out.old out.new (member_token key.now count) result }
 {
     out.key(key)?;
     out.u64(count)
@@ -21,8 +20,7 @@ fn write_count(out: &mut Writer, key: &str, count: u64) -> Result<(), AllocError
 
 /// Adds a rectangle.
 fn write_rect(out: &mut Writer, rect: &Rect) -> Result<(), AllocError>
-    ensures before { out.new.before ≡ out.old.before }
-    ensures tokens { OnOk result (out.new.tokens ≡ out.old.tokens ++ rect_tokens rect.now) }
+    ensures { AddsTokens out.old out.new (rect_tokens rect.now) result }
 {
     out.begin_object()?;
     write_count(out, "depth", rect.depth as u64)?;
@@ -37,8 +35,7 @@ fn write_rect(out: &mut Writer, rect: &Rect) -> Result<(), AllocError>
 
 /// Adds the rectangles, each an object.
 fn write_rects(out: &mut Writer, rects: &[Rect]) -> Result<(), AllocError>
-    ensures before { out.new.before ≡ out.old.before }
-    ensures tokens { OnOk result (out.new.tokens ≡ out.old.tokens ++ rects_tokens rects.now) }
+    ensures { AddsTokens out.old out.new (rects_tokens rects.now) result }
 {
     for rect in rects {
         write_rect(out, rect)?;
@@ -48,8 +45,7 @@ fn write_rects(out: &mut Writer, rects: &[Rect]) -> Result<(), AllocError>
 
 /// Adds a layout.
 fn write_flame(out: &mut Writer, flame: &Flame) -> Result<(), AllocError>
-    ensures before { out.new.before ≡ out.old.before }
-    ensures tokens { OnOk result (out.new.tokens ≡ out.old.tokens ++ flame_tokens flame.now) }
+    ensures { AddsTokens out.old out.new (flame_tokens flame.now) result }
 {
     out.begin_object()?;
     write_count(out, "columns", flame.columns.get() as u64)?;

@@ -1,13 +1,15 @@
 -- Names that are numbered as rows are counted.
 use Rattle.std.proofs.lemmas.Grind.{common_steps}
 use Rattle.std.proofs.Common.{◌≡◌, ℕ, zero, suc, ◌+◌, ◌-◌, ◌^◌, ◌<◌, ◌≤◌, true, false, cond, List, [], ◌∷◌, ◌++◌}
-use Rattle.std.proofs.Common.{length, map, take, drop, get_or, refl, sym, ap, ◌∙◌, subst, arith, All, Option, Some, replicate}
+use Rattle.std.proofs.Common.{length, map, take, drop, get_or, refl, sym, ap, ◌∙◌, subst, arith, All, Option, Some}
+use Rattle.std.proofs.Common.{replicate}
 use Rattle.std.proofs.Common.{None}
 use Rattle.std.specs.Prelude.{MatchOption, slice_get, slice_index_or}
 use Rattle.std.specs.List.{AllByRecursion, IsDistinct, common_prefix_len, list_any}
 use Rattle.std.specs.Str.{bytes_eq}
 use Rattle.std.proofs.lemmas.List.{get_or-drop, get_or-take, get_or_append_left, length-append, length-drop, length-map}
-use Rattle.std.proofs.lemmas.List.{append-nil, append_assoc, length-replicate, length-take-le, map-append, take_all, take_more}
+use Rattle.std.proofs.lemmas.List.{append-nil, append_assoc, length-replicate, length-take-le, map-append, take_all}
+use Rattle.std.proofs.lemmas.List.{take_more}
 use Rattle.std.proofs.lemmas.List.Elements.{All-head, All-push, All-tail, All-weaker, recursion_from_All}
 use Rattle.std.proofs.Math.Seq.{get_or-append_seam}
 use Rattle.std.proofs.lemmas.Option.{slice_get-get_or}
@@ -23,7 +25,8 @@ use Rattle.name_counts.specs.Tallies.{tally_at, tally_of}
 use Rattle.name_counts.specs.TextTables.{names_at, number_in, with_text, with_texts}
 use Rattle.name_counts.specs.NumberedRows.{IsNumberOfText}
 use Rattle.name_counts.proofs.TallyLaws.{zero_tally}
-use Rattle.name_counts.proofs.TextNumbers.{any_push, no_text, number_in-kept, number_in-lt, shown_at, text_of, there_inside}
+use Rattle.name_counts.proofs.TextNumbers.{any_push, no_text, number_in-kept, number_in-lt, shown_at, text_of}
+use Rattle.name_counts.proofs.TextNumbers.{there_inside}
 use Rattle.name_counts.proofs.TextNumbers.{text_of_number, with_text-there}
 use Rattle.profile_rows.proofs.SameNames.{is_same_name-self, same_from_is_same_name}
 

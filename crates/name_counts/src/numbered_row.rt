@@ -1,8 +1,9 @@
 //! The frames of a row by the numbers of their names.
 
-ghost use Rattle.std.specs.Prelude.{◌≡◌, ◌<◌, ◌≤◌, ◌^◌, ◌++◌, ◌∷◌, [], All, OnErr, OnOk, length, map, take, ℕ};
+ghost use Rattle.std.specs.Prelude.{◌≡◌, ◌<◌, ◌^◌, ◌++◌, ◌∷◌, [], All, OnErr, OnOk, length, map, take, ℕ};
 ghost use Rattle.std.specs.List.{common_prefix_len};
 ghost use Rattle.std.specs.Str.{bytes_eq};
+ghost use Rattle.name_counts.specs.NumberedRows.{SharesFrames};
 ghost use Rattle.name_counts.specs.TextTables.{names_at, number_in, with_text, with_texts};
 
 use crate::text_table::TextTable;
@@ -80,11 +81,7 @@ impl<'a> NumberedRow<'a> {
 
     /// Leaves the frames that others share with these from their roots, and says how many they are.
     fn keep_shared(&mut self, frames: &[&str]) -> usize
-        ensures within { result ≤ length frames.now }
-        ensures names { self.new.texts ≡ self.old.texts }
-        ensures frames { self.new.frames ≡ take result (map (λ frame. frame.now) frames.now) }
-        ensures known { with_texts self.old.texts (take result (map (λ frame. frame.now) frames.now))
-            ≡ self.old.texts }
+        ensures { SharesFrames self.old self.new frames.now result }
     {
         let shared = shared_frames(&self.names, self.numbers.as_slice(), frames);
         self.numbers.truncate(shared);

@@ -1,8 +1,10 @@
 //! What names weigh in rows, by their numbers.
 
-ghost use Rattle.std.specs.Prelude.{ℕ, ◌≡◌, ◌≢◌, ◌+◌, ◌^◌, ◌<◌, ◌++◌, ◌∷◌, [], All, List, IfOk, OnOk, length, map, slice_set};
+ghost use Rattle.std.specs.Prelude.{ℕ, ◌≡◌, ◌≢◌, ◌+◌, ◌^◌, ◌<◌, ◌++◌, ◌∷◌, [], All, List, IfOk, OnOk, length, map};
+ghost use Rattle.std.specs.Prelude.{slice_set};
 ghost use Rattle.profile_rows.specs.declared.weighted_stacks.WeightedStack.{WeightedStack};
-ghost use Rattle.name_counts.specs.Tallies.{AreSingle, AreTalliesOf, IsNumberedStack, frame_counted, leaf_counted, numbers_counted, tally_at};
+ghost use Rattle.name_counts.specs.Tallies.{AreSingle, AreTalliesOf, IsNumberedStack, frame_counted, leaf_counted};
+ghost use Rattle.name_counts.specs.Tallies.{numbers_counted, tally_at};
 ghost use Rattle.name_counts.specs.TextTables.{with_texts};
 ghost use Rattle.profile_rows.specs.TopList.{AreSumsOf, AreTotalsOf};
 

@@ -1,7 +1,7 @@
 //! The sources of `collect`: files, named pipes and folders, read as they come.
 //!
-//! A thread reads each source, and cuts what it brings into pieces of whole lines. What is wrong with a source is told on
-//! the standard error.
+//! A thread reads each source, and cuts what it brings into pieces of whole lines. What is wrong with a source is told
+//! on the standard error.
 #![tactic(auto)]
 
 mod begun;

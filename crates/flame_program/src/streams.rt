@@ -1,6 +1,7 @@
 //! Reading a whole input within a limit, and writing a whole text.
 
-ghost use Rattle.std.specs.Prelude.{◌≡◌, ◌+◌, ◌<◌, ◌≤◌, ℕ, List, Option, [], MatchResult, IfOk, OnOk, OnErr, vec_len, length, take};
+ghost use Rattle.std.specs.Prelude.{◌≡◌, ◌+◌, ◌<◌, ◌≤◌, ℕ, List, Option, [], MatchResult, IfOk, OnOk, OnErr, vec_len};
+ghost use Rattle.std.specs.Prelude.{length, take};
 ghost use Rattle.std.specs.Io.KnownBytes.{Appends, Consumes};
 ghost use Rattle.flame_program.specs.Parts.{AppendsBeginning, IsReadSoFar, IsWholeInput, LeavesAfterFault};
 

@@ -1,6 +1,7 @@
 //! Laws of layouts and answers, each the contract of a function that does nothing. A caller calls one to use its law.
 
-ghost use Rattle.std.specs.Prelude.{ℕ, ◌≡◌, ◌≤◌, ◌<◌, ◌↔◌, ◌+◌, ◌++◌, ◌∷◌, [], AllPairs, List, Contains, filter, map, true};
+ghost use Rattle.std.specs.Prelude.{ℕ, ◌≡◌, ◌≤◌, ◌<◌, ◌↔◌, ◌+◌, ◌++◌, ◌∷◌, [], AllPairs, List, Contains, filter, map};
+ghost use Rattle.std.specs.Prelude.{true};
 ghost use Rattle.std.specs.declared.cmp.Ordering.TheVariants.{Less};
 ghost use Rattle.profile_rows.specs.declared.weighted_stacks.WeightedStack.{WeightedStack};
 ghost use Rattle.profile_rows.specs.Aggregate.{aggregate_of, rows_of};

@@ -9,7 +9,8 @@ ghost use Rattle.profile_rows.specs.Names.{IsName, name_cmp};
 ghost use Rattle.profile_rows.specs.Paths.{begins_with, path_weight, prefixes};
 ghost use Rattle.profile_rows.specs.Rows.{total_of};
 ghost use Rattle.flame_report.specs.Answers.{flame_of, rect_of};
-ghost use Rattle.flame_report.specs.Sharing.{AreHeld, AreShapes, IsPlan, held_weight, known_at, shape_of, shown_of, span_of, stack_at};
+ghost use Rattle.flame_report.specs.Sharing.{AreHeld, AreShapes, IsPlan, held_weight, known_at, shape_of, shown_of};
+ghost use Rattle.flame_report.specs.Sharing.{span_of, stack_at};
 
 use crate::answer::{Flame, Label, Rect};
 use crate::query::Columns;

@@ -2,7 +2,8 @@
 
 ghost use Rattle.std.specs.Prelude.{◌≡◌, List, IfOk, OnOk, IsSorted, IsPermutation, string_bytes, ◌++◌};
 ghost use Rattle.profile_rows.specs.declared.weighted_stacks.WeightedStack.{WeightedStack};
-ghost use Rattle.profile_rows.specs.TopList.{AreSumsOf, AreTotalsOf, chosen_weight, top_cmp, top_line, top_list_of, top_text_of};
+ghost use Rattle.profile_rows.specs.TopList.{AreSumsOf, AreTotalsOf, chosen_weight, top_cmp, top_line, top_list_of};
+ghost use Rattle.profile_rows.specs.TopList.{top_text_of};
 ghost use Rattle.flame_report.specs.Answers.{ranking_of, top_of};
 ghost use Rattle.flame_report.specs.First.{AreFirst};
 

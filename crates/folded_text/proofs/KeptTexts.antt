@@ -103,7 +103,8 @@ module _ {Z : Type 0} where
 
     rows-added : kept_rows (set_value_at entries at (before + weight)) ≡ heavier
     rows-added = value-set entries at (before + weight)
-        ∙ ap (λ w. set rows at (record { text = found.text; weight = w + weight })) (sym (value-at entries at before is))
+        ∙ ap (λ w. set rows at (record { text = found.text; weight = w + weight }))
+        (sym (value-at entries at before is))
 
     spelled_heavier : spelled_rows heavier ≡ with_added_at (spelled_rows rows) at weight
     spelled_heavier = spelled-added rows at weight found lt (get_or_default rows at none found lt)
@@ -139,7 +140,8 @@ module _ {Z : Type 0} where
       → AreKeptTexts (kept_rows (entries ++ (key, weight) ∷ [])) (total + weight)
   AreKeptTexts-push entries key weight total fits spelled kept = record {
     spelled = rw (map-append (kept_row {Z = Z}) entries ((key, weight) ∷ []))
-        (All-push (λ (row : TextState). IsStackText row.text) (kept_rows entries) (kept_row (key, weight)) kept.spelled spelled);
+        (All-push (λ (row : TextState). IsStackText row.text) (kept_rows entries) (kept_row (key, weight))
+        kept.spelled spelled);
     total_is = grind (arith, common_steps, sum_by_push, kept.total_is);
     fits = fits;
   }

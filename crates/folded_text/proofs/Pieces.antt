@@ -1,6 +1,7 @@
 -- The pieces of a list that is cut at some of its elements.
 use Rattle.std.proofs.lemmas.Grind.{common_steps}
-use Rattle.std.proofs.Common.{◌≡◌, ℕ, ◌+◌, ◌<◌, ◌≤◌, Bool, false, true, eqb, eqb-true, get_or, List, [], ◌∷◌, length, length-drop}
+use Rattle.std.proofs.Common.{◌≡◌, ℕ, ◌+◌, ◌<◌, ◌≤◌, Bool, false, true, eqb, eqb-true, get_or, List, [], ◌∷◌, length}
+use Rattle.std.proofs.Common.{length-drop}
 use Rattle.std.proofs.Common.{sym, subst, arith, inl, inr}
 use Rattle.std.specs.List.{All, AllByRecursion, after_first, before_first, onto_first, position_or_len, slice_split}
 use Rattle.std.specs.Str.{IsUtf8}

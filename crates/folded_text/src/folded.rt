@@ -1,8 +1,10 @@
 //! Folded text read: a line is cut, tested against the limits, and becomes a row.
 
-ghost use Rattle.std.specs.Prelude.{ℕ, ◌≡◌, ◌≢◌, ◌+◌, ◌^◌, ◌<◌, ◌≤◌, ◌↔◌, ◌∷◌, ◌++◌, [], All, IsTrue, List, MatchOption, MatchResult, OnOk, length, map};
+ghost use Rattle.std.specs.Prelude.{ℕ, ◌≡◌, ◌≢◌, ◌+◌, ◌^◌, ◌<◌, ◌≤◌, ◌↔◌, ◌∷◌, ◌++◌, [], All, IsTrue, List};
+ghost use Rattle.std.specs.Prelude.{MatchOption, MatchResult, OnOk, length, map};
 ghost use Rattle.std.specs.Str.Parse.{IsNumeral, digits_value};
-ghost use Rattle.folded_text.specs.FoldedText.{GivesBatch, HasCount, HasWeight, IsCountFault, IsFittingFault, IsLineFault, IsRowAfter};
+ghost use Rattle.folded_text.specs.FoldedText.{GivesBatch, HasCount, HasWeight, IsCountFault, IsFittingFault};
+ghost use Rattle.folded_text.specs.FoldedText.{IsLineFault, IsRowAfter};
 ghost use Rattle.profile_rows.specs.Names.{IsName};
 ghost use Rattle.profile_rows.specs.Rows.{total_of};
 

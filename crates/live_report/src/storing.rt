@@ -1,6 +1,7 @@
 //! Storing what workers are to do, and hearing what they were told.
 
-ghost use Rattle.std.specs.Prelude.{ℕ, ◌≡◌, ◌≤◌, ◌+◌, ◌++◌, ◌∷◌, [], List, IfOk, MatchBool, MatchResult, None, OnOk, Some, length, map, option_map, vec_capacity};
+ghost use Rattle.std.specs.Prelude.{ℕ, ◌≡◌, ◌≤◌, ◌+◌, ◌++◌, ◌∷◌, [], List, IfOk, MatchBool, MatchResult, None, OnOk};
+ghost use Rattle.std.specs.Prelude.{Some, length, map, option_map, vec_capacity};
 ghost use Rattle.std.specs.Arc.{arc_value};
 ghost use Rattle.op_book.specs.Operations.{PlainOp, add, plain_op, reset};
 ghost use Rattle.live_store.specs.Workers.{AreWorkOf, ops_told};

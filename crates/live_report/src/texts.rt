@@ -1,6 +1,7 @@
 //! The text of what was stored and audited.
 
-ghost use Rattle.std.specs.Prelude.{ℕ, ◌≡◌, ◌+◌, ◌<◌, ◌++◌, List, IfErr, IfOk, MatchResult, None, OnOk, Some, cond, option_map, true};
+ghost use Rattle.std.specs.Prelude.{ℕ, ◌≡◌, ◌+◌, ◌<◌, ◌++◌, List, IfErr, IfOk, MatchResult, None, OnOk, Some, cond};
+ghost use Rattle.std.specs.Prelude.{option_map, true};
 ghost use Rattle.std.specs.Arc.{arc_value};
 ghost use Rattle.profile_rows.specs.Aggregate.{aggregate_of};
 ghost use Rattle.profile_rows.specs.Values.{BatchState, Row, rows_at};

@@ -2,7 +2,8 @@
 
 ghost use Rattle.std.specs.Prelude.{◌≡◌, ◌↔◌, ◌<◌, ◌+◌, ◌++◌, IsTrue, All, None, length, IfOk, MatchOption, OnOk};
 ghost use Rattle.op_book.specs.Receipts.{HasEntry, Precedes};
-ghost use Rattle.log_audit.specs.Matching.{HasOneLogEach, IsFirstWithout, IsInOrder, IsKnown, IsSecondLog, logged, logged_from};
+ghost use Rattle.log_audit.specs.Matching.{HasOneLogEach, IsFirstWithout, IsInOrder, IsKnown, IsSecondLog, logged};
+ghost use Rattle.log_audit.specs.Matching.{logged_from};
 
 use op_book::{Entry, Journal, NoMemory, Op, Receipt, SessionLog};
 use std::alloc::Global;

@@ -1,6 +1,7 @@
 //! The receipts in the order of a run, gone through once: which change is missing, and which answer is wrong.
 
-ghost use Rattle.std.specs.Prelude.{ℕ, ◌≡◌, ◌↔◌, ◌<◌, ◌≤◌, ◌⊎◌, Some, None, true, IsTrue, All, length, IfOk, MatchOption};
+ghost use Rattle.std.specs.Prelude.{ℕ, ◌≡◌, ◌↔◌, ◌<◌, ◌≤◌, ◌⊎◌, Some, None, true, IsTrue, All, length, IfOk};
+ghost use Rattle.std.specs.Prelude.{MatchOption};
 ghost use Rattle.log_audit.specs.Matching.{IsFirstMissing, IsReceived, LoggedReceipt};
 ghost use Rattle.op_book.specs.Operations.{FitsWidth, answered, plain_reply};
 ghost use Rattle.log_audit.specs.Replays.{AreLight, AreNumbered, AreRising, IsFollowed, IsLowestOf, IsPlainAt, ops_in};

@@ -135,7 +135,8 @@ pub(crate) fn push_message<M: Message>(
     items: &mut Items<M>,
     value: Value,
 ) -> Result<(), ProfileFault>
-    ensures { KeepsRule (AddsMessage (table_of M.form) (empty_of M.form) items.old (value_of value.entry)) items.new result }
+    ensures { KeepsRule (AddsMessage (table_of M.form) (empty_of M.form) items.old (value_of value.entry))
+        items.new result }
 {
     let Value::Bytes(bytes) = value else {
         return Err(ProfileFault::Wire(WireFault::WireType));

@@ -1,7 +1,8 @@
 //! The fields of a message, one after the other.
 
 ghost use Rattle.std.specs.Prelude.{◌≡◌, ℕ, List, ◌/◌, ◌^◌, ◌≤◌, ◌⊎◌, ◌++◌, IfOk, IfErr};
-ghost use Rattle.pprof_wire.specs.Fields.{PlainField, IsField, IsFieldNumber, IsFieldSpelling, IsRestFault, IsFieldRead, IsFieldAtFront};
+ghost use Rattle.pprof_wire.specs.Fields.{PlainField, IsField, IsFieldNumber, IsFieldSpelling, IsRestFault};
+ghost use Rattle.pprof_wire.specs.Fields.{IsFieldRead, IsFieldAtFront};
 
 use crate::faults::WireFault;
 use crate::parts::bytes_from;

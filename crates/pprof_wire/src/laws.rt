@@ -4,7 +4,8 @@
 ghost use Rattle.std.specs.Prelude.{◌≡◌, ℕ, List, [], ◌∷◌, ◌+◌, ◌^◌, ◌<◌, ◌≤◌, ◌⊎◌, ◌++◌, length};
 ghost use Rattle.pprof_wire.specs.declared.faults.WireFault.{WireFault};
 ghost use Rattle.pprof_wire.specs.Varints.{IsVarint, IsVarintFault, IsNumberList, SplitsIntoNumbers, varint_of};
-ghost use Rattle.pprof_wire.specs.Fields.{PlainField, IsFieldNumber, FitsValue, IsFieldSpelling, IsFieldList, SplitsIntoFields, IsRestFault, field_bytes_of};
+ghost use Rattle.pprof_wire.specs.Fields.{PlainField, IsFieldNumber, FitsValue, IsFieldSpelling, IsFieldList};
+ghost use Rattle.pprof_wire.specs.Fields.{SplitsIntoFields, IsRestFault, field_bytes_of};
 
 /// No spelling of a number begins another, and it has one number.
 pub fn one_spelling()

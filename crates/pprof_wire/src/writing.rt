@@ -2,7 +2,8 @@
 
 ghost use Rattle.std.specs.Prelude.{◌≡◌, ◌+◌, ◌^◌, ◌<◌, ◌≤◌, ◌++◌, length, vec_len, vec_capacity, OnOk, OnErr};
 ghost use Rattle.pprof_wire.specs.Varints.{varint_of};
-ghost use Rattle.pprof_wire.specs.Fields.{value_of, plain_field, wire_type_of, IsFieldNumber, value_bytes_of, field_bytes_of};
+ghost use Rattle.pprof_wire.specs.Fields.{value_of, plain_field, wire_type_of, IsFieldNumber, value_bytes_of};
+ghost use Rattle.pprof_wire.specs.Fields.{field_bytes_of};
 
 use crate::values::Value;
 use basics::NoMemory;

@@ -13,7 +13,8 @@ use Rattle.basics.proofs.Growing.{map_agreeing}
 use Rattle.std.proofs.lemmas.Bool.{cases_eq, cond_both, false≢true, eqb-true, eq-eqb, ne_eqb, or_left, or_right}
 use Rattle.std.proofs.lemmas.List.{drop_more, flat_map_more, get_or-map, length-map, reverse-append, take_more}
 use Rattle.std.proofs.lemmas.Option.{slice_get-map}
-use Rattle.std.proofs.lemmas.List.Elements.{All-cons, All-from_recursion, All-head, All-nil, All-push, All-set, All-tail}
+use Rattle.std.proofs.lemmas.List.Elements.{All-cons, All-from_recursion, All-head, All-nil, All-push, All-set}
+use Rattle.std.proofs.lemmas.List.Elements.{All-tail}
 use Rattle.std.proofs.lemmas.List.Elements.{All-weaker, recursion_from_All}
 use Rattle.std.proofs.lemmas.List.Folds.{length-flat_map-take, list_any_at}
 use Rattle.std.proofs.Math.Bool.{or-false, or_assoc}

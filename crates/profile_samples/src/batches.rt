@@ -3,7 +3,8 @@
 ghost use Rattle.std.specs.Prelude.{ℕ, ◌≡◌, ◌+◌, ◌<◌, ◌≤◌, ◌∷◌, ◌++◌, [], List, MatchResult, Some, length};
 ghost use Rattle.profile_rows.specs.Values.{AreTotals, HasRoom, Row};
 ghost use Rattle.profile_samples.specs.declared.sampling.ValueChoice.{ValueChoice};
-ghost use Rattle.profile_samples.specs.Samples.{AreWeightsOf, IsRowOfSample, IsSampleFault, IsValueFault, chosen_types_of};
+ghost use Rattle.profile_samples.specs.Samples.{AreWeightsOf, IsRowOfSample, IsSampleFault, IsValueFault};
+ghost use Rattle.profile_samples.specs.Samples.{chosen_types_of};
 ghost use Rattle.profile_samples.specs.Batches.{GivesBatch, IsBatchOf, StandsAtSample};
 
 use crate::name_numbers::NumberedFrames;

@@ -3,7 +3,9 @@
 ghost use Rattle.std.specs.Prelude.{◌≡◌, ◌<◌, ◌≤◌, ◌^◌, All, IfOk, OnOk, [], length, map, pos, reverse};
 ghost use Rattle.std.specs.List.{flat_map};
 ghost use Rattle.profile_rows.specs.Names.{IsName};
-ghost use Rattle.profile_samples.specs.Export.{draft_with, exported_draft, exported_function, exported_location, exported_profile_of, exported_sample, exported_type, id_in, pairs_of, profile_with, strings_of, unit_texts};
+ghost use Rattle.profile_samples.specs.Export.{draft_with, exported_draft, exported_function, exported_location};
+ghost use Rattle.profile_samples.specs.Export.{exported_profile_of, exported_sample, exported_type, id_in, pairs_of};
+ghost use Rattle.profile_samples.specs.Export.{profile_with, strings_of, unit_texts};
 ghost use Rattle.profile_samples.specs.Batches.{IsBatchOf};
 ghost use Rattle.name_counts.specs.TextTables.{with_texts};
 ghost use Rattle.profile_samples.specs.declared.sampling.ValueChoice.TheVariants as choices;

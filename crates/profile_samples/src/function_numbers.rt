@@ -4,7 +4,8 @@ ghost use Rattle.std.specs.Prelude.{◌≡◌, IfOk, true};
 ghost use Rattle.std.specs.Option.{option_map};
 ghost use Rattle.pprof_profile.specs.Valid.{IsValidDraft};
 ghost use Rattle.profile_samples.specs.Samples.{address_name, item_with, named_by};
-ghost use Rattle.profile_samples.specs.NameNumbers.{address_of, needs_address, number_at, number_by, number_of, numbers_of, string_numbers};
+ghost use Rattle.profile_samples.specs.NameNumbers.{address_of, needs_address, number_at, number_by, number_of};
+ghost use Rattle.profile_samples.specs.NameNumbers.{numbers_of, string_numbers};
 
 use crate::id_index::IdIndex;
 use basics::NoMemory;

@@ -1,13 +1,15 @@
 //! The names of a profile's frames by numbers. Equal names have one number, whether they come of one string, of two or
 //! of an address, so that a sample's frames are told apart without their texts.
 
-ghost use Rattle.std.specs.Prelude.{ℕ, ◌≡◌, ◌<◌, ◌≤◌, ◌↔◌, All, IfOk, IsTrue, List, MatchOption, [], ◌∷◌, ◌++◌, length, map, slice_index_or};
+ghost use Rattle.std.specs.Prelude.{ℕ, ◌≡◌, ◌<◌, ◌≤◌, ◌↔◌, All, IfOk, IsTrue, List, MatchOption, [], ◌∷◌, ◌++◌, length};
+ghost use Rattle.std.specs.Prelude.{map, slice_index_or};
 ghost use Rattle.std.specs.Option.{option_map};
 ghost use Rattle.pprof_profile.specs.Valid.{IsValidDraft, location_ids};
 ghost use Rattle.profile_rows.specs.Names.{IsName};
 ghost use Rattle.profile_samples.specs.Samples.{frames_of_ids, sample_stack_of};
 ghost use Rattle.name_counts.specs.TextTables.{with_texts};
-ghost use Rattle.profile_samples.specs.NameNumbers.{AreNumbered, address_names, frame_names, given, numbers_of, numbers_of_id, once_of};
+ghost use Rattle.profile_samples.specs.NameNumbers.{AreNumbered, address_names, frame_names, given, numbers_of};
+ghost use Rattle.profile_samples.specs.NameNumbers.{numbers_of_id, once_of};
 
 use crate::frame_lists::FrameLists;
 use crate::function_numbers::FunctionNumbers;

@@ -5,7 +5,8 @@ ghost use Rattle.std.specs.List.{position};
 ghost use Rattle.pprof_profile.specs.declared.messages.ValueType.{ValueType};
 ghost use Rattle.profile_samples.specs.declared.sampling.ValueChoice.{ValueChoice};
 ghost use Rattle.profile_samples.specs.Batches.{IsFirstFault, IsFirstStacksFault};
-ghost use Rattle.profile_samples.specs.Samples.{AreChosen, IsSampleFault, IsValueFault, IsWeightAfter, chosen_types_of, default_type, type_named};
+ghost use Rattle.profile_samples.specs.Samples.{AreChosen, IsSampleFault, IsValueFault, IsWeightAfter, chosen_types_of};
+ghost use Rattle.profile_samples.specs.Samples.{default_type, type_named};
 ghost use Rattle.profile_samples.specs.EqualStrings.{equal_at, equal_strings};
 
 use crate::name_numbers::NumberedFrames;

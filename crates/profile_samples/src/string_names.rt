@@ -2,7 +2,8 @@
 
 ghost use Rattle.std.specs.Prelude.{ℕ, ◌≡◌, ◌<◌, ◌||◌, IfOk, [], false, length, slice_index_or};
 ghost use Rattle.profile_samples.specs.Samples.{string_at};
-ghost use Rattle.profile_samples.specs.NameNumbers.{AreMarks, AreStringNumbers, IsNumbered, index_in, is_at, string_numbers};
+ghost use Rattle.profile_samples.specs.NameNumbers.{AreMarks, AreStringNumbers, IsNumbered, index_in, is_at};
+ghost use Rattle.profile_samples.specs.NameNumbers.{string_numbers};
 
 use basics::NoMemory;
 use indexmap::IndexSet;

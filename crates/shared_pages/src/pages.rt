@@ -1,6 +1,7 @@
 //! Pages of items.
 
-ghost use Rattle.std.specs.Prelude.{◌≡◌, ◌<◌, ◌≤◌, ◌+◌, ◌^◌, ◌++◌, ◌∷◌, [], length, take, IfOk, MatchResult, OnOk, OnErr, slice_set, slice_index_or};
+ghost use Rattle.std.specs.Prelude.{◌≡◌, ◌<◌, ◌≤◌, ◌+◌, ◌^◌, ◌++◌, ◌∷◌, [], length, take, IfOk, MatchResult, OnOk};
+ghost use Rattle.std.specs.Prelude.{OnErr, slice_set, slice_index_or};
 ghost use Rattle.std.specs.Arc.{arc_value};
 ghost use Rattle.shared_pages.specs.Pages.{IsInPages, last_items, with_item};
 

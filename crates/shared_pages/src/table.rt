@@ -1,6 +1,7 @@
 //! Items in parts of one size.
 
-ghost use Rattle.std.specs.Prelude.{◌≡◌, ◌<◌, ◌≤◌, ◌+◌, ◌*◌, ◌^◌, length, nat_lt, if◌then◌else◌, MatchResult, slice_index_or};
+ghost use Rattle.std.specs.Prelude.{◌≡◌, ◌<◌, ◌≤◌, ◌+◌, ◌*◌, ◌^◌, length, nat_lt, if◌then◌else◌, MatchResult};
+ghost use Rattle.std.specs.Prelude.{slice_index_or};
 ghost use Rattle.std.proofs.Common.{arith};
 ghost use Rattle.std.specs.Arc.{arc_value};
 ghost use Rattle.shared_pages.specs.Pages.{IsPlace, with_item};

@@ -1,5 +1,6 @@
 -- The pens of a history.
-use Rattle.std.proofs.Common.{◌≡◌, ◌≢◌, ℕ, zero, suc, ◌<◌, List, [], ◌∷◌, ◌++◌, All, length, true, refl, ap, sym, ◌∙◌, subst, arith}
+use Rattle.std.proofs.Common.{◌≡◌, ◌≢◌, ℕ, zero, suc, ◌<◌, List, [], ◌∷◌, ◌++◌, All, length, true, refl, ap, sym, ◌∙◌}
+use Rattle.std.proofs.Common.{subst, arith}
 use Rattle.std.proofs.lemmas.List.Elements.{All-cons, All-head, All-nil, All-tail}
 use mathlib.Core.List.{IsPrefix}
 use Rattle.std.specs.Prelude.{slice_set}
@@ -43,7 +44,8 @@ whole_by H [] log p some used not = absurd (omega arith)
 whole_by H (m ∷ seen) [] p some used not = absurd (cc (p.1))
 whole_by H (m ∷ []) (n ∷ []) p some used not = cc (p.1)
 whole_by H (m ∷ []) (n ∷ n2 ∷ log) p some used not =
-    let same : n ≡ m = cc (p.1) in absurd (not (subst (λ (x : Line). H (pen_named x)) same (All-head H (pen_named n) (used_pens (n2 ∷ log)) used)))
+    let same : n ≡ m = cc (p.1) in absurd (not (subst (λ (x : Line). H (pen_named x)) same (All-head H (pen_named n)
+    (used_pens (n2 ∷ log)) used)))
 whole_by H (m ∷ m2 ∷ seen) (n ∷ []) p some used not = absurd (cc (p.1))
 whole_by H (m ∷ m2 ∷ seen) (n ∷ n2 ∷ log) p some used not =
     let rest = whole_by H (m2 ∷ seen) (n2 ∷ log) (p.0, cc (p.1)) (omega arith)

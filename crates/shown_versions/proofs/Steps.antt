@@ -11,7 +11,8 @@ use Rattle.logbook.specs.Pages.{Cell, Nib, cell, keeps, gives, adds, no_nib, may
 use Rattle.shown_versions.specs.declared.history_rule.Line.{Line}
 use Rattle.shown_versions.specs.declared.history_rule.Line.TheVariants as line
 use Rattle.shown_versions.specs.Histories.{HasBegun, HasTakenPen, IsAdded, IsKept, IsUnused, next_pen, used_pens}
-use Rattle.shown_versions.proofs.Pens.{all_more, at_more, home_within, set_again, set_other, set_same, used_with, whole_by, word_with}
+use Rattle.shown_versions.proofs.Pens.{all_more, at_more, home_within, set_again, set_other, set_same, used_with}
+use Rattle.shown_versions.proofs.Pens.{whole_by, word_with}
 
 abbrev pub shown : List Line → List Line
 shown log = []
@@ -79,7 +80,8 @@ begun_moves cs [] v made kept =
       tt,
       record {
         word = at_more (slice_set cs 0 (either ((cell cs 0).0 == 0) 1 (cell cs 0).0, true)) ((0, false) ∷ []) 0
-            (omega (arith, within, length-set cs 0 (either ((cell cs 0).0 == 0) 1 (cell cs 0).0, true))) ∙ (set_same cs 0 _ within ∙ rw found refl);
+            (omega (arith, within, length-set cs 0 (either ((cell cs 0).0 == 0) 1 (cell cs 0).0, true)))
+            ∙ (set_same cs 0 _ within ∙ rw found refl);
         used = All-nil (λ k. (cell (slice_set cs 0 (either ((cell cs 0).0 == 0) 1 (cell cs 0).0, true)
             ++ (0, false) ∷ []) k).1 ≡ true);
       },

@@ -7,5 +7,8 @@ use Rattle.flame_words.proofs.command.with_own.Goals as goal
 
 pub returns : goal.returns
 returns c = IfOk-weaker c.arg.result _ _
-    (λ with added. record { app_is = added.shape c.requires; globals_are = added.globals ∙ or_no _ _ (grind (arith, common_steps)) })
+    (λ with added. record {
+      app_is = added.shape c.requires;
+      globals_are = added.globals ∙ or_no _ _ (grind (arith, common_steps));
+    })
     c.arg.ensures

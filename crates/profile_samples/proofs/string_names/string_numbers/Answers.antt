@@ -16,15 +16,18 @@ loop-at-preserved c =
     let at = c.loop-at.at in
     let string = c.index-strings-at.result in
     let name = c.if-index.name in
-    let named : name ≡ (if names_function draft.functions at then cleaned_name_of string else None) = elim c.if-index.branch [
+    let named : name ≡ (if names_function draft.functions at then cleaned_name_of string else None) =
+    elim c.if-index.branch [
       | then-index+in_ok-name w ↦ grind (arith, common_steps)
       | else-index w ↦ grind (arith, common_steps)
     ] in
     let isname : All IsName (given (name ∷ [])) = elim c.if-index.branch [
-      | then-index+in_ok-name w ↦ rw (w.name-is, w.in_ok-name.ensures, w.as_str.ensures.text) (named_string _ w.as_str.ensures.utf8)
+      | then-index+in_ok-name w ↦ rw (w.name-is, w.in_ok-name.ensures, w.as_str.ensures.text)
+          (named_string _ w.as_str.ensures.utf8)
       | else-index w ↦ rw w.name-is (All-nil IsName)
     ] in
     string_named draft c.loop-at.names.keys c.number_with.new.names.keys c.loop-at.numbers.items c.push.new.self.items
     name c.in_ok-number_with.field-0 (string_names_from draft.functions (at + 1) (drop (at + 1) strings))
-    (rw (string_next draft.functions strings at string name c.loop-at-test.true c.index-strings-at.is named) at c.loop-at.invariant)
+    (rw (string_next draft.functions strings at string name c.loop-at-test.true c.index-strings-at.is named)
+    at c.loop-at.invariant)
     c.in_ok-number_with.ensures.names isname c.in_ok-push.ensures.items c.in_ok-number_with.ensures.number

@@ -36,5 +36,6 @@ returns-clause-path c =
     c.requires.within c.requires.path
     (grown.each 0 some) nodes c.in_ok-number.ensures.number.0 (c.in_ok-number.ensures.number.1 ∙ frame) state
     (plain_at c.child.new.self 0) c.in_ok-there.there
-    c.add.new.self slot c.in_ok-there.ensures.there c.in_ok-there.ensures.ok c.child.ensures.nodes.names child.within child.stack)
+    c.add.new.self slot c.in_ok-there.ensures.there c.in_ok-there.ensures.ok
+    c.child.ensures.nodes.names child.within child.stack)
     c.child.ensures.child

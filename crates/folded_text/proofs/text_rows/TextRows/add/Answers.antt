@@ -14,4 +14,5 @@ invariant_of-self-2 c =
     ] in
     AreKnownTexts-push _ _ _ _ (record { text = c.args.text.now; weight = c.args.weight }) _ _ _ c.in-Ok.ensures.texts
     (rw c.new.ensures at c.in_ok-push.ensures.items) (rw c.self.view_is c.requires.new_text) c.requires.spelled
-    (omega (arith, c.if-weight-eq0.false)) (rw (c.self.invariant.total_is, c.self.view_is) c.requires.fits) joins c.self.invariant
+    (omega (arith, c.if-weight-eq0.false)) (rw (c.self.invariant.total_is, c.self.view_is) c.requires.fits)
+    joins c.self.invariant

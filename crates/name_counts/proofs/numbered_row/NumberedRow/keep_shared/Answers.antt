@@ -29,7 +29,8 @@ returns c =
       within = grind (arith, common_steps, length-map, common_prefix_len-le, text_of);
       names = grind (arith, common_steps);
       first = stays;
-      known = subst (λ ts. with_texts ts (take shared all) ≡ ts) (ap (λ (row : NumberedFrames). row.texts) c.self.view_is)
+      known = subst (λ ts. with_texts ts (take shared all) ≡ ts)
+          (ap (λ (row : NumberedFrames). row.texts) c.self.view_is)
           (ap (with_texts texts) (sym stays)
           ∙ are_known texts c.truncate.new.self.items (subst (All (IsNumberOfText texts)) (sym c.truncate.ensures.items)
           (All-take (IsNumberOfText texts) shared c.self.inside.numbers.items c.self.invariant)));

@@ -15,10 +15,12 @@ invariant_of-result c =
     let functions = c.as_slice-functions.result.now in
     let ids : c.in_ok-ids.ids.items ≡ map (λ (function : Function). function.id) functions =
     IfOk-at_ok _ c.in_ok-ids.was (items_from_collect _ c.collect.ensures.ran (YieldsList-from_map _
-    (λ (function : Function). function.id) (YieldsList-at c.map.ensures.source (YieldsList-from_slice functions c.iter.ensures.rest))
+    (λ (function : Function). function.id)
+    (YieldsList-at c.map.ensures.source (YieldsList-from_slice functions c.iter.ensures.rest))
     c.map.ensures.closure (λ x r q k. search rules))) in
     let numbers : c.in_ok-numbers.numbers.items ≡ map (number_by c.args.strings.now) functions =
     IfOk-at_ok _ c.in_ok-numbers.was (items_from_collect _ c.collect-2.ensures.ran (YieldsList-from_map _
-    (number_by c.args.strings.now) (YieldsList-at c.map-2.ensures.source (YieldsList-from_slice functions c.iter-2.ensures.rest))
+    (number_by c.args.strings.now)
+    (YieldsList-at c.map-2.ensures.source (YieldsList-from_slice functions c.iter-2.ensures.rest))
     c.map-2.ensures.closure (λ x r q k. search rules))) in
     grind (arith, common_steps, ids_differ, function_numbers_are, ids, numbers)

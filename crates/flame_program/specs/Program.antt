@@ -1,5 +1,5 @@
 -- How a run of the program ends, over what its reader had left and what its writer holds, before and after.
-use Rattle.std.specs.Prelude.{ℕ, ⊤, ◌≡◌, ◌≢◌, ◌+◌, ◌≤◌, ◌↔◌, List, length, Option, Some, IfSome}
+use Rattle.std.specs.Prelude.{ℕ, ⊤, ◌≡◌, ◌≢◌, ◌+◌, ◌≤◌, ◌⊎◌, ◌↔◌, List, length, Option, Some, None, IfSome}
 use Rattle.std.specs.Io.KnownBytes.{Appends, Keeps}
 use Rattle.flame_program.specs.Requests.{IsAnswer, IsInputFault, IsReadable}
 use Rattle.flame_program.specs.Parts.{AppendsBeginning, IsWholeInput, TakesAtMost, TakesExactly}
@@ -112,3 +112,18 @@ unasked_outcome_of (words.Refused text) = Words text
 unasked_outcome_of words.BadName = Fault Name
 unasked_outcome_of words.Sessions = Fault Sessions
 unasked_outcome_of words.NoMemory = Fault NoMemory
+
+-- A run that ended with this code, by this cause. At 0 the input was read to its end, and exactly the report on the rows
+-- that it spells was appended. Where the words ask for something, the input alone decides, but where the streams, memory
+-- or a store failed. Words that ask for nothing end with 2, unless memory runs out, and no others do. Nothing is
+-- written, but at 0 and at a fault of writing: then a prefix of the report.
+pub record IsRun (words : List (List ℕ)) (limit : ℕ) (unread left before after : Option (List ℕ)) (code : ℕ)
+    (cause : Outcome) : Type 0 where
+  pub ends : IsEnd words limit unread left before after code cause
+  pub done : code ≡ 0 → IsDone words limit unread left before after
+  pub decided : InputDecides words limit unread code
+  pub refused : code ≡ 2 → IsRefused words ⊎ (IsMisnamed words ⊎ IsCrowded words)
+  pub unasked : request_of words ≡ None → code ≢ 4 → code ≡ 2
+  pub silent : code ≢ 0 → cause ≢ Fault Write → Keeps before after
+  pub cut : cause ≡ Fault Write → IsCut words limit unread left before after
+  pub reads_at_most : TakesAtMost (limit + 1) unread left

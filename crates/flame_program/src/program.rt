@@ -1,10 +1,8 @@
 //! The whole program over any reader and writer.
 
-ghost use Rattle.std.specs.Prelude.{◌≡◌, ◌≢◌, ◌+◌, ◌≤◌, ◌⊎◌, List, ℕ, Some, None};
-ghost use Rattle.std.specs.Io.KnownBytes.{Keeps};
-ghost use Rattle.flame_program.specs.Parts.{TakesAtMost};
-ghost use Rattle.flame_program.specs.Program.{EndsBy, InputDecides, IsCut, IsDone, IsEnd, read_fault_of, unasked_outcome_of};
-ghost use Rattle.flame_words.specs.Words.{IsCrowded, IsMisnamed, IsRefused, request_of, texts_of};
+ghost use Rattle.std.specs.Prelude.{◌≡◌, ◌≤◌, List, ℕ, Some};
+ghost use Rattle.flame_program.specs.Program.{EndsBy, IsRun, read_fault_of, unasked_outcome_of};
+ghost use Rattle.flame_words.specs.Words.{request_of, texts_of};
 
 use crate::outcomes::{Outcome, Status, ToolFault};
 use crate::requests::answer;
@@ -33,25 +31,8 @@ pub fn run<'a, T: Threads + Wait + RandomSource + Sync, P: Progress, R: Read, W:
     limit: usize,
 ) -> Status
     requires { limit ≤ MAX_INPUT }
-    // The code is the cause's, and the cause says what was read and what was written.
-    ensures ends { IsEnd (texts_of words.entry.now) limit (R.remaining reader.old) (R.remaining reader.new)
+    ensures { IsRun (texts_of words.entry.now) limit (R.remaining reader.old) (R.remaining reader.new)
         (W.contents writer.old) (W.contents writer.new) result.code result.cause }
-    // At 0 the input was read to its end, and exactly the report on the rows that it spells was appended.
-    ensures done { result.code ≡ 0 → IsDone (texts_of words.entry.now) limit
-        (R.remaining reader.old) (R.remaining reader.new) (W.contents writer.old) (W.contents writer.new) }
-    // Where the words ask for something, the input alone decides, but where the streams, memory or a store failed.
-    ensures decided { InputDecides (texts_of words.entry.now) limit (R.remaining reader.old) result.code }
-    // Arguments that ask for nothing end with 2, unless memory runs out, and no others do.
-    ensures refused { result.code ≡ 2
-        → IsRefused (texts_of words.entry.now) ⊎ (IsMisnamed (texts_of words.entry.now)
-        ⊎ IsCrowded (texts_of words.entry.now)) }
-    ensures unasked { request_of (texts_of words.entry.now) ≡ None → result.code ≢ 4 → result.code ≡ 2 }
-    // Nothing is written, but at 0 and at a fault of writing: then a prefix of the report.
-    ensures silent { result.code ≢ 0 → result.cause ≢ Outcome.Fault ToolFault.Write
-        → Keeps (W.contents writer.old) (W.contents writer.new) }
-    ensures cut { result.cause ≡ Outcome.Fault ToolFault.Write → IsCut (texts_of words.entry.now) limit
-        (R.remaining reader.old) (R.remaining reader.new) (W.contents writer.old) (W.contents writer.new) }
-    ensures reads_at_most { TakesAtMost (limit + 1) (R.remaining reader.old) (R.remaining reader.new) }
 {
     Status::of(outcome_of(rt, alloc, progress, words, reader, writer, limit))
 }

@@ -1,6 +1,6 @@
 //! One window of time, as those who fill it share it.
 
-ghost use Rattle.collecting.specs.Added.{AreFirstLines};
+ghost use Rattle.collect_sources.specs.Lines.{AreFirstLines};
 
 use collect_sources::{count_lines, first_lines};
 use profile_store::BookFault;

@@ -113,9 +113,9 @@ unasked_outcome_of words.BadName = Fault Name
 unasked_outcome_of words.Sessions = Fault Sessions
 unasked_outcome_of words.NoMemory = Fault NoMemory
 
--- A run that ended with this code, by this cause. At 0 the input was read to its end, and exactly the report on the rows
--- that it spells was appended. Where the words ask for something, the input alone decides, but where the streams, memory
--- or a store failed. Words that ask for nothing end with 2, unless memory runs out, and no others do. Nothing is
+-- A run that ended with this code, by this cause. At 0 the input was read to its end, and exactly the report on the
+-- rows that it spells was appended. Where the words ask for something, the input alone decides, but where the streams,
+-- memory or a store failed. Words that ask for nothing end with 2, unless memory runs out, and no others do. Nothing is
 -- written, but at 0 and at a fault of writing: then a prefix of the report.
 pub record IsRun (words : List (List ℕ)) (limit : ℕ) (unread left before after : Option (List ℕ)) (code : ℕ)
     (cause : Outcome) : Type 0 where

@@ -180,7 +180,7 @@ impl Book {
     }
 
     /// What every book keeps.
-    fn facts(&self)
+    pub(crate) fn facts(&self)
         ensures { IsBook self.now }
     {
         let _ = self.ledger.entries();

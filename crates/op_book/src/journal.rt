@@ -60,7 +60,7 @@ impl Journal {
         ensures sessions { result ≡ self.now.sessions }
         ensures kept { IsJournal self.now }
     {
-        let _ = self.book.entries();
+        self.book.facts();
         self.book.sessions()
     }
 
@@ -69,7 +69,7 @@ impl Journal {
         ensures width { result ≡ self.now.width }
         ensures kept { IsJournal self.now }
     {
-        let _ = self.book.entries();
+        self.book.facts();
         self.book.width()
     }
 }

@@ -101,7 +101,7 @@ impl Gate for Meeting {
 }
 
 /// Lets the second worker take its first step, then the first worker, and then the second worker again, while the first
-/// is held behind its step.
+/// is held after its step.
 #[derive(Drop)]
 pub(crate) struct Holding {
     /// Which step the second worker is about to take.

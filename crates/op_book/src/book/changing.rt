@@ -201,6 +201,7 @@ impl Book {
     fn check_batch(&self, batch: &Batch) -> Result<(), BookFault>
         ensures space { MatchResult result (λ _. HasSpaceFor self.now (add batch.now))
             (IsSpaceFault self.now (add batch.now)) }
+        ensures memory { IfErr result (λ fault. fault ≢ BookFault.NoMemory) }
         ensures tree { OnOk result ((value : ℕ)
             → total_in (weights_of self.now.tree value) + total_of (rows_at value batch.now.rows) < 2 ^ 63) }
     {

@@ -1,6 +1,5 @@
 pub mod Answers
 pub mod Equality
-pub mod EqualityLaws
 pub mod First
 pub mod Json
 pub mod Labels

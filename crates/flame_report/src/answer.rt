@@ -110,7 +110,7 @@ pub enum Answer {
 
 impl PartialEq for Answer {
     ghost use Rattle.flame_report.specs.Equality.{answer_eq};
-    ghost use Rattle.flame_report.specs.EqualityLaws.{answer_eq-laws};
+    ghost use Rattle.flame_report.specs.Equality.{answer_eq-laws};
     ghost use Rattle.std.specs.Cmp.{partial_equiv_from_equiv};
 
     ghost eq = { answer_eq };
@@ -133,7 +133,7 @@ impl PartialEq for Answer {
 }
 
 impl Eq for Answer {
-    ghost use Rattle.flame_report.specs.EqualityLaws.{answer_eq-laws};
+    ghost use Rattle.flame_report.specs.Equality.{answer_eq-laws};
 
     ghost laws = { answer_eq-laws };
 }

@@ -96,7 +96,7 @@ impl Query {
 
 impl PartialEq for Query {
     ghost use Rattle.flame_report.specs.Equality.{query_eq};
-    ghost use Rattle.flame_report.specs.EqualityLaws.{query_eq-laws};
+    ghost use Rattle.flame_report.specs.Equality.{query_eq-laws};
     ghost use Rattle.std.specs.Cmp.{partial_equiv_from_equiv};
 
     ghost eq = { query_eq };
@@ -116,7 +116,7 @@ impl PartialEq for Query {
 }
 
 impl Eq for Query {
-    ghost use Rattle.flame_report.specs.EqualityLaws.{query_eq-laws};
+    ghost use Rattle.flame_report.specs.Equality.{query_eq-laws};
 
     ghost laws = { query_eq-laws };
 }

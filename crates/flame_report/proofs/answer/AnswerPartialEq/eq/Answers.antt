@@ -1,7 +1,6 @@
 -- What each kind of answer holds is compared.
 use Rattle.std.proofs.Common.{rules, ◌≡◌}
-use Rattle.flame_report.specs.Equality.{answer_eq}
-use Rattle.flame_report.specs.EqualityLaws.{answer_eq-decides}
+use Rattle.flame_report.specs.Equality.{answer_eq, answer_eq-decides}
 use Rattle.flame_report.proofs.answer.AnswerPartialEq.eq.Goals as goal
 
 pub returns-in-Top-Top-clause-equal : goal.returns-in-Top-Top-clause-equal

@@ -1,6 +1,6 @@
-use Rattle.collect_sources.specs.Lines.{IsBetweenLines}
+use Rattle.collect_sources.proofs.Counting.{IsLineStart}
 use Rattle.collect_sources.proofs.text.line_start.Given as goal
 
--- no line is parted where the search has come to
+-- a line begins where the search has come to, after so many others
 abbrev pub invariant-loop : goal.invariant-loop
-invariant-loop l = IsBetweenLines l.text l.start
+invariant-loop l = IsLineStart l.text l.counter l.start

@@ -8,4 +8,4 @@ returns-then-not-self g c = all_lines c.args.text.now
 pub returns : goal.returns
 returns g c =
     fewer_lines c.args.text.now c.first_lines-lines.result.now c.first_lines.result.now
-    c.first_lines-lines.ensures c.first_lines.ensures
+    c.first_lines-lines.ensures.lines c.first_lines.ensures.lines

@@ -2,12 +2,9 @@
 
 use crate::batches::Asked;
 use crate::trees;
-use flame_report::{
-    Answer, Flame, Kind, Query, Rank, Rect, flame_json, report_in_order, report_of,
-    report_of_stacks, top_list, top_text,
-};
+use flame_report::{Answer, Query, report_in_order, report_of, report_of_stacks};
 use row_scripts::{Made, Wrong};
-use spelled_rows::{kind_name, query_of};
+use spelled_rows::{KINDS, add_answer, counts_names, kind_name, query_of, top_answer};
 use stack_text::{
     Batch, FrameTotals, Hashing, LineSums, WeightedStacks, folded_totals, kept_totals, merge_lines,
     read_ordered,
@@ -22,7 +19,7 @@ pub(crate) fn run(asked: Asked, batch: &Batch, made: &mut Made) {
     if kind != "each" {
         return answer(asked, batch, kind, made);
     }
-    for kind in ["total", "flat", "cum", "folded", "flame"] {
+    for kind in KINDS {
         answer(asked, batch, kind, made);
     }
 }
@@ -57,7 +54,8 @@ fn agree_all(asked: Asked, batch: &Batch, query: &Query, made: &mut Made) {
                     query,
                     answer: &answer,
                 };
-                add_answer(asked, &answer, made);
+                add_answer(asked.words, &answer, made);
+                made.end_line(b'\n');
                 made.compare("report_of", again, &answer);
                 agree_on_all_ways(given, &stacks, made);
             }
@@ -69,8 +67,8 @@ fn agree_all(asked: Asked, batch: &Batch, query: &Query, made: &mut Made) {
 
 /// The other ways. The rows are those by the value that the query names.
 fn agree_on_all_ways(given: Given, stacks: &WeightedStacks, made: &mut Made) {
-    if let Kind::Top { rank, count } = given.query.kind {
-        agree_on_names(given, stacks, rank, count, made);
+    if counts_names(given.query) {
+        agree_on_names(given, stacks, made);
     }
     if given.asked.words.has("alone") {
         return;
@@ -132,72 +130,21 @@ fn sums_of_pieces(alloc: Global, hashing: Hashing, text: &[u8]) -> LineSums {
     sums
 }
 
-/// Adds an answer as text. A folded report is followed by how many lines it has.
-fn add_answer(asked: Asked, answer: &Answer, made: &mut Made) {
-    let alloc = made.alloc();
-    match answer {
-        Answer::Total(total) => made.say(total),
-        Answer::Top(top) => made.add_made(top_text(alloc, top)),
-        Answer::Flame(flame) if asked.words.has("layout") => add_layout(flame, made),
-        Answer::Flame(flame) => made.say_made(flame_json(alloc, flame)),
-        Answer::Folded(text) => {
-            made.add(text.as_slice());
-            let count = text.as_slice().split(|byte| *byte == b'\n').count();
-            made.say(&format_args!("{} rows", count.saturating_sub(1)));
-        }
-    }
-}
-
-/// Adds a line for each rectangle. The JSON text has as many.
-fn add_layout(flame: &Flame, made: &mut Made) {
-    made.say(&format_args!("total {}", flame.total));
-    for rect in flame.rects.as_slice() {
-        add_rect(rect, made);
-    }
-    match flame_json(made.alloc(), flame) {
-        Ok(json) => {
-            let count = json.matches("\"depth\":").count();
-            made.agree("flame_json", count == flame.rects.as_slice().len());
-        }
-        Err(_) => made.fail(Wrong::NoMemory),
-    }
-}
-
-/// Depth, x, weight, left, how many columns, name.
-fn add_rect(rect: &Rect, made: &mut Made) {
-    let columns = rect.right.saturating_sub(rect.left);
-    let (depth, left) = (u64::from(rect.depth), u64::from(rect.left));
-    for number in [depth, rect.x, rect.weight, left, u64::from(columns)] {
-        made.print(&format_args!("{number} "));
-    }
-    made.show(&rect.name.text());
-}
-
-/// The ways that count names, where a top list is asked for.
-fn agree_on_names(given: Given, stacks: &WeightedStacks, rank: Rank, count: u32, made: &mut Made) {
+/// The ways that count names, where a list of these is asked for.
+fn agree_on_names(given: Given, stacks: &WeightedStacks, made: &mut Made) {
     let (alloc, hashing, query) = (made.alloc(), given.asked.hashing, given.query);
     let (focus, ignored) = (query.focus.as_ref(), query.ignore.as_ref());
     let totals = kept_totals(alloc, hashing, stacks, focus, ignored);
-    agree_on_top(given, "kept_totals", totals, rank, count, made);
+    agree_on_top(given, "kept_totals", totals, made);
     if given.asked.has_folded_text() && query.keeps_all() {
         let totals = folded_totals(alloc, hashing, given.asked.input);
-        agree_on_top(given, "folded_totals", totals, rank, count, made);
+        agree_on_top(given, "folded_totals", totals, made);
     }
 }
 
-fn agree_on_top<E: Drop>(
-    given: Given,
-    way: &str,
-    totals: Result<FrameTotals, E>,
-    rank: Rank,
-    count: u32,
-    made: &mut Made,
-) {
-    let Ok(totals) = totals else {
-        return made.fail(Wrong::Missing);
-    };
-    match top_list(totals, rank, count) {
-        Ok(top) => made.agree(way, Answer::Top(top) == *given.answer),
-        Err(_) => made.fail(Wrong::NoMemory),
+fn agree_on_top<E: Drop>(given: Given, way: &str, totals: Result<FrameTotals, E>, made: &mut Made) {
+    match totals {
+        Ok(totals) => made.compare(way, top_answer(given.query, totals), given.answer),
+        Err(_) => made.fail(Wrong::Missing),
     }
 }

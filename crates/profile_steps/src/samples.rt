@@ -1,10 +1,9 @@
 //! Samples of profiles as rows, and rows as profiles.
 
 use crate::profiles::{read_profile, say_profile};
-use flame_report::{Rank, top_list, top_text};
 use pprof_profile::Profile;
 use row_scripts::{Made, Words, Wrong};
-use spelled_rows::add_values;
+use spelled_rows::{add_answer, add_values, query_of, top_answer};
 use stack_text::{
     Batch, FrameTotals, Hashing, Name, ValueChoice, ValueUnit, batch_of, batch_of_with,
     export_folded, merge_samples, profile_of, read_folded, sample_totals, unfold, write_stacks,
@@ -53,9 +52,10 @@ fn say_top(words: Words, profile: &Profile, made: &mut Made) {
 }
 
 fn add_top(totals: FrameTotals, made: &mut Made) {
-    match top_list(totals, Rank::Flat, 20) {
-        Ok(top) => made.add_made(top_text(made.alloc(), &top)),
-        Err(_) => made.fail(Wrong::NoMemory),
+    let words = Words { text: "" };
+    let query = query_of(words, "top", made);
+    if let Some(top) = made.done(top_answer(&query, totals)) {
+        add_answer(words, &top, made);
     }
 }
 

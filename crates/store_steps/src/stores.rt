@@ -2,13 +2,13 @@
 
 ghost use Rattle.std.specs.Prelude.{◌≡◌};
 
-use book_steps::{batch_of, op_of, query_of, run_closed, tell_answer};
+use book_steps::{batch_of, op_of, query_of, run_closed};
 use profile_store::{
     Batch, Blank, Hashing, MakeFault, Op, Placed, Query, Reply, Session, SessionLog, Store,
     StoreName, Told, Window,
 };
 use row_scripts::{Checker, Made, Script, Step, Words, Wrong, next_step};
-use spelled_rows::{add_stacks, width_of};
+use spelled_rows::{add_answer, add_stacks, width_of};
 use std::alloc::Global;
 use std::marker::Brand;
 use std::sync::{Arc, Wait};
@@ -212,7 +212,7 @@ fn hold<N: StoreName, R: Wait>(
     match first.ask(made.alloc(), query) {
         Ok(answer) => {
             let receipts = add_rows(rt, second, deed, times, made);
-            tell_answer(answer, made);
+            add_answer(deed.words, answer, made);
             made.say(&format_args!("{receipts} receipts"));
         }
         Err(fault) => made.refuse(&fault),
@@ -233,7 +233,7 @@ fn take<N: StoreName, R: Wait>(
         "receipt" => tell_receipt(session, deed.words, made),
         "times" => add_times(rt, session, deed, made),
         "take" => take_window(rt, session, told, made),
-        _ => operate(rt, session, told, op_of(deed.words, deed.input, made), made),
+        _ => operate(rt, session, told, deed, made),
     }
 }
 
@@ -260,10 +260,11 @@ fn operate<N: StoreName, R: Wait>(
     rt: &R,
     session: &mut Session<'_, N>,
     told: &mut Vec<Told<N>>,
-    op: Option<Op>,
+    deed: Deed,
     made: &mut Made,
 ) {
-    match op {
+    let Deed { words, input } = deed;
+    match op_of(words, input, made) {
         Some(Op::Add(batch)) => match session.add(rt, made.alloc(), batch) {
             Ok(placed) => keep(placed, told, made),
             Err(refused) => made.refuse(&refused.fault),
@@ -272,7 +273,7 @@ fn operate<N: StoreName, R: Wait>(
             Ok(placed) => keep(placed, told, made),
             Err(fault) => made.refuse(&fault),
         },
-        Some(Op::Ask(query)) => ask(session, &query, made),
+        Some(Op::Ask(query)) => ask(session, &query, words, made),
         None => made.fail(Wrong::Command),
     }
 }
@@ -306,9 +307,15 @@ fn tell_receipt<N: StoreName>(session: &Session<'_, N>, words: Words, made: &mut
         return made.fail(Wrong::Missing);
     };
     if let Reply::Answered(answer) = &receipt.reply {
-        tell_answer(answer, made);
+        add_answer(words, answer, made);
     }
-    made.say(&format_args!("at {}", receipt.at));
+    add_at(receipt.at, made);
+}
+
+/// Adds after how many changes an answer is, on the line of a total.
+fn add_at(at: u64, made: &mut Made) {
+    made.end_line(b' ');
+    made.say(&format_args!("at {at}"));
 }
 
 fn add_times<N: StoreName, R: Wait>(
@@ -355,13 +362,18 @@ pub(crate) fn add_often<N: StoreName, R: Wait>(
 }
 
 /// Adds an answer, and after how many changes it is.
-fn ask<N: StoreName>(session: &mut Session<'_, N>, query: &Arc<Query>, made: &mut Made) {
+fn ask<N: StoreName>(
+    session: &mut Session<'_, N>,
+    query: &Arc<Query>,
+    words: Words,
+    made: &mut Made,
+) {
     match session.ask(made.alloc(), query) {
-        Ok(answer) => tell_answer(answer, made),
+        Ok(answer) => add_answer(words, answer, made),
         Err(fault) => return made.refuse(&fault),
     }
     match session.log().last() {
-        Some(receipt) => made.say(&format_args!("at {}", receipt.at)),
+        Some(receipt) => add_at(receipt.at, made),
         None => made.fail(Wrong::Missing),
     }
 }

@@ -105,9 +105,6 @@ fn run_call<R: Threads + Wait + RandomSource + Clock + Sync>(
         "hashes" | "memory" | "faults" | "live" | "sources" => {
             program_steps::run_command(rt, words, input, made)
         }
-        "workers" | "held" | "windows" | "threads" => {
-            store_steps::run_command(rt, words, input, made)
-        }
         "same" => compare_receipts(input, made),
         _ => profile_steps::run_command(rt, words, input, made),
     }

@@ -33,40 +33,44 @@ pub(crate) struct Given<'a> {
     pub(crate) answer: &'a Answer,
 }
 
+/// Adds the answer, and tells of the ways that answer otherwise.
 fn answer(asked: Asked, batch: &Batch, kind: &str, made: &mut Made) {
     let query = query_of(asked.words, kind, made);
-    agree_all(asked, batch, &query, made);
-}
-
-/// Adds the answer, and tells of the ways that answer otherwise.
-fn agree_all(asked: Asked, batch: &Batch, query: &Query, made: &mut Made) {
-    let alloc = made.alloc();
     if query.value >= batch.width().get() {
         return made.fail(Wrong::Missing);
     }
-    let again = report_of(alloc, asked.hashing, batch, query);
-    match batch.weighted_stacks(alloc, query.value) {
-        Ok(stacks) => match report_of(alloc, Hashing::fixed(), batch, query) {
-            Ok(answer) => {
-                let given = Given {
-                    asked,
-                    batch,
-                    query,
-                    answer: &answer,
-                };
-                add_answer(asked.words, &answer, made);
-                made.end_line(b'\n');
-                made.compare("report_of", again, &answer);
-                agree_on_all_ways(given, &stacks, made);
-            }
-            Err(_) => made.fail(Wrong::NoMemory),
-        },
+    match report_of(made.alloc(), Hashing::fixed(), batch, &query) {
+        Ok(answer) => {
+            let given = Given {
+                asked,
+                batch,
+                query: &query,
+                answer: &answer,
+            };
+            add_answer(asked.words, &answer, made);
+            made.end_line(b'\n');
+            agree_on_all_ways(given, made);
+        }
         Err(_) => made.fail(Wrong::NoMemory),
     }
 }
 
-/// The other ways. The rows are those by the value that the query names.
-fn agree_on_all_ways(given: Given, stacks: &WeightedStacks, made: &mut Made) {
+/// The other ways.
+fn agree_on_all_ways(given: Given, made: &mut Made) {
+    let (alloc, batch, query) = (made.alloc(), given.batch, given.query);
+    if query.value >= batch.width().get() {
+        return made.fail(Wrong::Missing);
+    }
+    let again = report_of(alloc, given.asked.hashing, batch, query);
+    made.compare("report_of", again, given.answer);
+    match batch.weighted_stacks(alloc, query.value) {
+        Ok(stacks) => agree_on_rows(given, &stacks, made),
+        Err(_) => made.fail(Wrong::NoMemory),
+    }
+}
+
+/// The ways over rows by the value that the query names.
+fn agree_on_rows(given: Given, stacks: &WeightedStacks, made: &mut Made) {
     if counts_names(given.query) {
         agree_on_names(given, stacks, made);
     }
@@ -76,6 +80,7 @@ fn agree_on_all_ways(given: Given, stacks: &WeightedStacks, made: &mut Made) {
     agree_on_stacks(given, "report_of_stacks", stacks.share(), made);
     if given.asked.has_folded_text() {
         agree_on_text(given, made);
+        agree_on_order(given, made);
     }
     trees::agree_on_report(&given, made);
 }
@@ -98,7 +103,7 @@ fn agree_on_stacks<E: Drop>(
     }
 }
 
-/// The answer over folded text that is read in order, and over its merged lines, also of two pieces.
+/// The answer over the merged lines of folded text, also of two pieces.
 fn agree_on_text(given: Given, made: &mut Made) {
     let (alloc, hashing, text) = (made.alloc(), given.asked.hashing, given.asked.input);
     agree_on_stacks(
@@ -109,6 +114,11 @@ fn agree_on_text(given: Given, made: &mut Made) {
     );
     let sums = sums_of_pieces(alloc, hashing, text);
     agree_on_stacks(given, "LineSums", sums.stacks(), made);
+}
+
+/// The answer over folded text that is read in order.
+fn agree_on_order(given: Given, made: &mut Made) {
+    let (alloc, hashing, text) = (made.alloc(), given.asked.hashing, given.asked.input);
     match read_ordered(alloc, hashing, text) {
         Ok(ordered) => made.compare(
             "report_in_order",

@@ -3,7 +3,7 @@
 use crate::profiles::{read_profile, say_profile};
 use pprof_profile::Profile;
 use row_scripts::{Made, Words, Wrong};
-use spelled_rows::{add_answer, add_values, query_of, top_answer};
+use spelled_rows::{add_answer, add_values, query_of, top_answer, width_of};
 use stack_text::{
     Batch, FrameTotals, Hashing, Name, ValueChoice, ValueUnit, batch_of, batch_of_with,
     export_folded, merge_samples, profile_of, read_folded, sample_totals, unfold, write_stacks,
@@ -119,11 +119,20 @@ fn units_of<'a>(words: Words<'a>, made: &mut Made) -> Vec<ValueUnit<'a>> {
     units
 }
 
-/// `export cpu/ns`: the bytes of the profile of folded text. `export rows cpu/ns` makes a batch of it first.
+/// `export cpu/ns`: the bytes of the profile of folded text. `export rows cpu/ns` makes a batch of it first, and
+/// `export rows cpu/ns samples/count width 2` one of rows with so many values.
 pub(crate) fn export(words: Words, input: &[u8], made: &mut Made) {
-    if !words.has("rows") {
-        return export_text(words, input, made);
+    if words.has("width") {
+        let width = width_of(words, made);
+        export_rows(words, &spelled_rows::batch_of(width, input, made), made);
+    } else if words.has("rows") {
+        export_folded_rows(words, input, made);
+    } else {
+        export_text(words, input, made);
     }
+}
+
+fn export_folded_rows(words: Words, input: &[u8], made: &mut Made) {
     match read_folded(made.alloc(), input) {
         Ok(rows) => export_rows(words, &rows, made),
         Err(fault) => made.refuse(&fault),

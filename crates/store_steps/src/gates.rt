@@ -22,8 +22,8 @@ pub(crate) fn add_one(count: &AtomicU64) {
     let _ = count.fetch_add(1, Ordering::SeqCst);
 }
 
-/// Counts the calls of workers. Each calls before its first step, after it, before its second step, and so on. A call is
-/// wrong where it isn't the worker's next, or is held in vain.
+/// Counts the calls of workers. Each calls before its first step, after it, before its second step, and so on. A call
+/// is wrong where it isn't the worker's next, or is held in vain.
 #[derive(Drop)]
 pub(crate) struct Counting {
     /// Which calls are held, each as three numbers: a worker, its call, and how many calls there have to be.

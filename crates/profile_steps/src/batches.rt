@@ -1,6 +1,6 @@
-//! Batches: rows that are lent, written, exported and put together, each in every public way.
+//! Batches: rows that are read, given away and put together, each in every public way.
 
-use crate::{reports, trees};
+use crate::reports;
 use profile_rows::aggregate_stacks;
 use row_scripts::{Made, Words, Wrong};
 use spelled_rows::{add_folded, width_of};
@@ -161,7 +161,7 @@ fn give_stacks(stacks: &WeightedStacks, given: &mut WeightedStacks, made: &mut M
     }
 }
 
-/// `aggregate`, `aggregate width 2`: each stack once, with its sum of each value. The tree of the rows has the same.
+/// `aggregate`, `aggregate width 2`: each stack once, with its sum of each value.
 /// `aggregate alone` goes no other way.
 fn put_together(asked: Asked, batch: &Batch, made: &mut Made) {
     match aggregate(made.alloc(), batch) {
@@ -172,11 +172,7 @@ fn put_together(asked: Asked, batch: &Batch, made: &mut Made) {
 
 fn add_sums(asked: Asked, batch: &Batch, sums: &Batch, made: &mut Made) {
     add_folded(sums, made);
-    if asked.words.has("alone") {
-        return;
-    }
-    trees::agree_on_rows(batch, sums, made);
-    if asked.has_folded_text() {
+    if asked.has_folded_text() && !asked.words.has("alone") {
         agree_on_sums(batch, sums.first(), made);
         agree_on_order(asked, sums.first(), made);
     }

@@ -148,11 +148,16 @@ fn add_sample(draft: &mut Draft, words: Words, made: &mut Made) -> bool {
 fn fill_sample(sample: &mut Sample, words: Words, made: &mut Made) -> bool {
     let location_id = id_after(words, "location_id", made);
     let has_location = sample.location_ids.push(location_id).is_ok();
-    let mut is_filled = !words.has("key") || sample.labels.push(label_of(words, made)).is_ok();
-    for value in words.after("values").unwrap_or("").split_terminator(',') {
-        is_filled &= sample.values.push(made.number(value)).is_ok();
+    let has_label = !words.has("key") || sample.labels.push(label_of(words, made)).is_ok();
+    has_location && has_label && add_values(sample, words.after("values").unwrap_or(""), made)
+}
+
+fn add_values(sample: &mut Sample, values: &str, made: &mut Made) -> bool {
+    let mut has_all = true;
+    for value in values.split_terminator(',') {
+        has_all &= sample.values.push(made.number(value)).is_ok();
     }
-    has_location && is_filled
+    has_all
 }
 
 fn label_of(words: Words, made: &mut Made) -> SampleLabel {

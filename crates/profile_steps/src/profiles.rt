@@ -37,20 +37,27 @@ fn answer_by(words: Words, profile: &Profile, made: &mut Made) {
 /// Adds the canonical bytes of a profile, which have to read back as a profile with the same.
 pub(crate) fn say_profile(profile: &Profile, made: &mut Made) {
     let mut written = Made::new(made.alloc());
-    written.add_made(encode(made.alloc(), profile));
-    let mut again = Made::new(made.alloc());
-    read_again(written.bytes(), &mut again);
+    add_encoded(profile, &mut written);
     made.add(written.bytes());
     made.fail_as(&written);
-    made.fail_as(&again);
-    if written.bytes() != again.bytes() {
+    expect_again(written.bytes(), made);
+}
+
+fn add_encoded(profile: &Profile, made: &mut Made) {
+    made.add_made(encode(made.alloc(), profile));
+}
+
+fn expect_again(bytes: &[u8], made: &mut Made) {
+    let mut again = Made::new(made.alloc());
+    read_again(bytes, &mut again);
+    if again.wrong().is_some() || again.bytes() != bytes {
         made.fail(Wrong::Unequal);
     }
 }
 
 fn read_again(bytes: &[u8], made: &mut Made) {
     match decode(made.alloc(), bytes) {
-        Ok(profile) => made.add_made(encode(made.alloc(), &profile)),
+        Ok(profile) => add_encoded(&profile, made),
         Err(_) => made.fail(Wrong::Unequal),
     }
 }

@@ -82,7 +82,7 @@ fn agree_on_rows(given: Given, stacks: &WeightedStacks, made: &mut Made) {
         agree_on_text(given, made);
         agree_on_order(given, made);
     }
-    trees::agree_on_report(&given, made);
+    trees::agree_on_report(given, made);
 }
 
 /// The answer over rows of one value, whichever value the query names.

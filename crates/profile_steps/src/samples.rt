@@ -99,10 +99,14 @@ fn export_samples(words: Words, profile: &Profile, made: &mut Made) {
 
 fn export_rows(words: Words, rows: &Batch, made: &mut Made) {
     let units = units_of(words, made);
+    export_units(units.as_slice(), rows, made);
+}
+
+fn export_units(units: &[ValueUnit], rows: &Batch, made: &mut Made) {
     if units.len() != rows.width().get() as usize {
         return made.fail(Wrong::Missing);
     }
-    match profile_of(made.alloc(), rows, units.as_slice()) {
+    match profile_of(made.alloc(), rows, units) {
         Ok(profile) => say_profile(&profile, made),
         Err(_) => made.fail(Wrong::NoMemory),
     }

@@ -36,34 +36,23 @@ fn plan_of(alloc: Global, grower: &mut Grower, rows: &Batch) -> Option<Plan>
     grower.plan(alloc, rows).ok()
 }
 
-/// A grower to which rows were credited.
-fn grower_of(alloc: Global, rows: &Batch) -> Option<Grower> {
-    let mut grower = Grower::new(alloc, rows.width()).ok()?;
-    let plan = plan_of(alloc, &mut grower, rows)?;
-    grower.credit(plan);
-    Some(grower)
-}
-
-/// Whether the tree of rows has these sums.
-pub(crate) fn agree_on_rows(rows: &Batch, sums: &Batch, made: &mut Made) {
-    let alloc = made.alloc();
-    match grower_of(alloc, rows) {
-        Some(grower) => made.compare("CallTree::rows", grower.tree().rows(alloc), sums),
-        None => made.fail(Wrong::Missing),
-    }
-}
-
 /// Whether the tree of rows answers as the rows do.
-pub(crate) fn agree_on_report(given: &Given, made: &mut Made) {
-    match grower_of(made.alloc(), given.batch) {
-        Some(grower) => {
-            agree_on_answer(grower.tree(), given, made);
-        }
-        None => made.fail(Wrong::Missing),
+pub(crate) fn agree_on_report(given: Given, made: &mut Made) {
+    match Grower::new(made.alloc(), given.batch.width()) {
+        Ok(mut grower) => agree_on_grown(&mut grower, given, made),
+        Err(_) => made.fail(Wrong::NoMemory),
     }
 }
 
-fn agree_on_answer(tree: &CallTree, given: &Given, made: &mut Made) {
+fn agree_on_grown(grower: &mut Grower, given: Given, made: &mut Made) {
+    if has_room(grower, given.batch) && grower.add(made.alloc(), given.batch).is_ok() {
+        agree_on_answer(grower.tree(), given, made);
+    } else {
+        made.fail(Wrong::Missing);
+    }
+}
+
+fn agree_on_answer(tree: &CallTree, given: Given, made: &mut Made) {
     if given.query.value >= tree.width().get() {
         return made.fail(Wrong::Missing);
     }

@@ -6,7 +6,7 @@ use crate::sessions::{Deed, hold, take, tell_number};
 use crate::{walks, windows, workers};
 use book_steps::run_closed;
 use profile_store::{Blank, Hashing, MakeFault, Session, SessionLog, Store, StoreName, Told};
-use row_scripts::{Checker, Made, Scene, Script, Step, Words, Wrong, run_steps};
+use row_scripts::{Checker, Made, Script, Step, Words, Wrong, next_step};
 use spelled_rows::width_of;
 use std::marker::Brand;
 use std::sync::Wait;
@@ -81,7 +81,7 @@ fn run_sessions<N: StoreName, R: Threads + Wait + Sync>(
         logs: Vec::new(checker.alloc),
     };
     checker.settle(step);
-    run_steps(checker, script, &mut room);
+    run_steps(&mut room, checker, script);
     logs_of(room, &mut checker.made)
 }
 
@@ -116,20 +116,37 @@ fn logs_of<N: StoreName, R>(room: Room<N, R>, made: &mut Made) -> Vec<SessionLog
     logs
 }
 
-impl<N: StoreName, R: Threads + Wait + Sync> Scene for Room<'_, N, R> {
-    fn run(&mut self, words: Words, input: &[u8], made: &mut Made) {
-        let deed = Deed {
-            words: words.rest(1),
-            input,
+fn run_steps<N: StoreName, R: Threads + Wait + Sync>(
+    room: &mut Room<'_, N, R>,
+    checker: &mut Checker,
+    script: &mut Script,
+) {
+    for _ in 0..script.most_steps() {
+        let Some(step) = next_step(checker, script) else {
+            return;
         };
-        match words.word(0) {
-            "workers" => workers::run_lists(self, deed, made),
-            "held" => workers::run_held(self, deed, made),
-            "ungated" => workers::run_ungated(self, deed, made),
-            "windows" => windows::run(self, deed, made),
-            "threads" => walks::run(self, deed, made),
-            who => self.take(who, deed, made),
-        }
+        run_step(room, step.words, checker.input.bytes(), &mut checker.made);
+        checker.settle(&step);
+    }
+}
+
+fn run_step<N: StoreName, R: Threads + Wait + Sync>(
+    room: &mut Room<'_, N, R>,
+    words: Words,
+    input: &[u8],
+    made: &mut Made,
+) {
+    let deed = Deed {
+        words: words.rest(1),
+        input,
+    };
+    match words.word(0) {
+        "workers" => workers::run_lists(room, deed, made),
+        "held" => workers::run_held(room, deed, made),
+        "ungated" => workers::run_ungated(room, deed, made),
+        "windows" => windows::run(room, deed, made),
+        "threads" => walks::run(room, deed, made),
+        who => room.take(who, deed, made),
     }
 }
 
@@ -182,9 +199,12 @@ impl<N: StoreName, R: Wait> Room<'_, N, R> {
 
     /// `hold 300 ask folded`: the first session's answer, while the second adds the rows of the input so often.
     fn hold(&mut self, deed: Deed, made: &mut Made) {
-        match self.sessions.as_mut_slice() {
-            [first, second, ..] => hold(self.rt, first, second, deed, made),
-            _ => made.fail(Wrong::Missing),
+        let Some((first, others)) = self.sessions.split_first_mut() else {
+            return made.fail(Wrong::Missing);
+        };
+        match others.first_mut() {
+            Some(second) => hold(self.rt, first, second, deed, made),
+            None => made.fail(Wrong::Missing),
         }
     }
 }

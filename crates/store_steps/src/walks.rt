@@ -5,13 +5,13 @@ use crate::gates::{add_one, come};
 use crate::sessions::{Deed, run_op};
 use crate::stores::Room;
 use book_steps::{batch_of, query_of};
-use profile_store::{Batch, Op, Placed, Query, Session, StoreName};
+use profile_store::{Batch, Op, Placed, Query, Session, SessionLog, StoreName};
 use row_scripts::{Made, Words};
 use std::alloc::Global;
 use std::sync::atomic::{AtomicU64, Ordering};
 use std::sync::{Arc, Mutex, Wait};
-use std::thread;
 use std::thread::Threads;
+use std::{mem, thread};
 
 /// The first so many sessions tell others of their changes, and hear of theirs.
 const TELLING: u32 = 4;
@@ -24,16 +24,34 @@ pub(crate) fn run<N: StoreName, R: Threads + Wait + Sync>(
     deed: Deed,
     made: &mut Made,
 ) {
-    let (rt, alloc) = (room.rt, made.alloc());
     let work = work_of(made.text_of(deed.input), made);
     let steps = made.number(deed.words.word(0));
-    let bench = Bench::new(&work, room.sessions.len() as u64, steps);
+    let sessions = mem::replace(&mut room.sessions, Vec::new(made.alloc()));
+    let bench = Bench::new(made.alloc(), &work, sessions.len() as u64, steps);
+    start_all(room.rt, sessions, &bench, made);
+    bench.tell(made);
+    keep_all(bench.end(), &mut room.logs, made);
+}
+
+/// A thread for each session.
+fn start_all<N: StoreName, R: Threads + Wait + Sync>(
+    rt: &R,
+    sessions: Vec<Session<'_, N>>,
+    bench: &Bench<N>,
+    made: &Made,
+) {
+    let alloc = made.alloc();
     thread::scope(thread::scope_env(), rt, |scope| {
-        for session in room.sessions.iter_mut() {
-            let _ = scope.spawn(|| bench.walk(rt, alloc, session));
+        for session in sessions {
+            let _ = scope.spawn(move || bench.walk(rt, alloc, session));
         }
     });
-    bench.tell(made);
+}
+
+fn keep_all(all: Vec<SessionLog>, logs: &mut Vec<SessionLog>, made: &mut Made) {
+    for log in all {
+        made.keep(logs, log);
+    }
 }
 
 /// What sessions add and ask.
@@ -98,6 +116,8 @@ struct Bench<'a, N: StoreName> {
     begun: AtomicU64,
     /// What one of them was last told of a change.
     last: Mutex<Option<Placed<N>>>,
+    /// The logs of the sessions that took all their steps.
+    done: Mutex<Vec<SessionLog>>,
     /// How often sessions heard of a change.
     heard: AtomicU64,
     /// How often they were refused, or told less than they knew.
@@ -106,13 +126,14 @@ struct Bench<'a, N: StoreName> {
 
 impl<'a, N: StoreName> Bench<'a, N> {
     /// Nobody took a step yet.
-    fn new(work: &'a Work, sessions: u64, steps: usize) -> Bench<'a, N> {
+    fn new(alloc: Global, work: &'a Work, sessions: u64, steps: usize) -> Bench<'a, N> {
         Bench {
             work,
             sessions,
             steps,
             begun: AtomicU64::new(0),
             last: Mutex::new(None),
+            done: Mutex::new(Vec::new(alloc)),
             heard: AtomicU64::new(0),
             wrong: AtomicU64::new(0),
         }
@@ -124,8 +145,15 @@ impl<'a, N: StoreName> Bench<'a, N> {
         }
     }
 
-    /// Takes a session's steps. After its first, it waits for the first of all others.
-    fn walk<R: Wait>(&self, rt: &R, alloc: Global, session: &mut Session<'_, N>) {
+    /// Takes a session's steps. Where there is no memory for its log, that is missing in the audit.
+    fn walk<R: Wait>(&self, rt: &R, alloc: Global, session: Session<'_, N>) {
+        let mut session = session;
+        self.step_all(rt, alloc, &mut session);
+        let _ = self.done.lock(rt).push(session.close());
+    }
+
+    /// After its first step, a session waits for the first of all others.
+    fn step_all<R: Wait>(&self, rt: &R, alloc: Global, session: &mut Session<'_, N>) {
         let mut known = self.step(rt, alloc, session, 0, 0);
         add_one(&self.begun);
         self.expect(come(&self.begun, self.sessions));
@@ -181,6 +209,11 @@ impl<'a, N: StoreName> Bench<'a, N> {
         if session < TELLING {
             *self.last.lock(rt) = Some(placed);
         }
+    }
+
+    /// The logs of the sessions.
+    fn end(self) -> Vec<SessionLog> {
+        self.done.into_inner()
     }
 
     /// Adds how often sessions were told what is wrong, and how often they heard.

@@ -20,14 +20,26 @@ pub(crate) fn run<N: StoreName, R: Threads + Wait + Sync>(
     made: &mut Made,
 ) {
     let times = made.number(deed.words.word(0));
-    let batch = batch_of(deed.words.rest(1), deed.input, made);
-    match (room.sessions.as_mut_slice(), batch) {
-        ([first, second, ..], Some(batch)) => {
-            let weight = add_and_take(room.rt, made.alloc(), first, second, &batch, times);
-            made.say(&format_args!("weight {weight}"));
-        }
-        _ => made.fail(Wrong::Missing),
+    if let Some(batch) = batch_of(deed.words.rest(1), deed.input, made) {
+        weigh(room.rt, room.sessions.as_mut_slice(), &batch, times, made);
     }
+}
+
+fn weigh<N: StoreName, R: Threads + Wait + Sync>(
+    rt: &R,
+    sessions: &mut [Session<'_, N>],
+    batch: &Arc<Batch>,
+    times: u64,
+    made: &mut Made,
+) {
+    let Some((first, others)) = sessions.split_first_mut() else {
+        return made.fail(Wrong::Missing);
+    };
+    let Some(second) = others.first_mut() else {
+        return made.fail(Wrong::Missing);
+    };
+    let weight = add_and_take(rt, made.alloc(), first, second, batch, times);
+    made.say(&format_args!("weight {weight}"));
 }
 
 /// Two threads, which begin together. It gives what the windows weigh.

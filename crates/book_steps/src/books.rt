@@ -122,10 +122,9 @@ fn settle(book: &mut Book, ready: Ready, made: &mut Made)
     requires { ready.before ≡ book.old }
 {
     let (before, next) = (total_of(book.tree()), total_of(ready.next()));
-    made.print(&format_args!("before {before}, ready {next}, "));
     let at = book.settle(ready).at;
     let after = total_of(book.tree());
-    made.say(&format_args!("after {after}, at {at}"));
+    made.say(&format_args!("before {before}, ready {next}, after {after}, at {at}"));
 }
 
 fn total_of(tree: &CallTree) -> u64 {

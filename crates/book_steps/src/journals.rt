@@ -43,8 +43,10 @@ impl Scene for Closed<'_> {
 fn tell_state(journal: &Journal, made: &mut Made) {
     let (entries, sessions) = (journal.entries().len(), journal.sessions());
     let total = journal.tree().total();
-    made.print(&format_args!("{entries} entries, "));
-    made.say(&format_args!("{:?}, {sessions} sessions", total.values()));
+    made.say(&format_args!(
+        "{entries} entries, {:?}, {sessions} sessions",
+        total.values()
+    ));
 }
 
 /// Adds each entry, and the rows of an addition below it, by their first value.

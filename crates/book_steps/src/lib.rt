@@ -7,4 +7,4 @@ mod operations;
 
 pub use books::run_scene as run_book;
 pub use journals::{compare_receipts, run_closed, tell_verdict};
-pub use operations::{batch_of, op_of, query_of, tell_answer};
+pub use operations::{batch_of, op_of, query_of};

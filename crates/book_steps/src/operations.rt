@@ -1,9 +1,9 @@
 //! What is asked of a book, a store or a worker, as a script spells it: `add main;a 3`, `reset`, `ask total`.
 
-use flame_report::{Answer, Query, flame_json, top_text};
+use flame_report::Query;
 use op_book::{Op, Receipt, Reply};
 use row_scripts::{Made, Words, Wrong};
-use spelled_rows::{kind_name, numbers_of, push_row};
+use spelled_rows::{kind_name, numbers_of, push_row, total_answer};
 use stack_text::{Batch, Weights, read_folded};
 use std::sync::Arc;
 
@@ -47,9 +47,11 @@ pub fn query_of(words: Words, made: &mut Made) -> Option<Arc<Query>> {
 pub(crate) fn receipt_of(text: &str, made: &mut Made) -> Option<Receipt> {
     let (text, at) = text.rsplit_once(" at ").unwrap_or(("", ""));
     let at = made.number(at);
-    let op = op_of(Words { text }, b"", made)?;
-    let reply = reply_of(Words { text }, at, made)?;
-    Some(Receipt { op, reply, at })
+    let op = op_of(Words { text }, b"", made);
+    match (op, reply_of(Words { text }, at, made)) {
+        (Some(op), Some(reply)) => Some(Receipt { op, reply, at }),
+        _ => None,
+    }
 }
 
 /// The total that `says` gives, or else the place of a change.
@@ -58,7 +60,7 @@ fn reply_of(words: Words, place: u64, made: &mut Made) -> Option<Reply> {
         return Some(Reply::Placed(place));
     };
     let (alloc, total) = (made.alloc(), made.number(total));
-    let answer = made.done(Arc::new(alloc, Answer::Total(total)));
+    let answer = made.done(Arc::new(alloc, total_answer(total)));
     Some(Reply::Answered(answer?))
 }
 
@@ -70,16 +72,5 @@ pub(crate) fn place_of(reply: &Reply, made: &mut Made) -> u64 {
             made.fail(Wrong::Missing);
             0
         }
-    }
-}
-
-/// Adds the lines of an answer, or a total and a space.
-pub fn tell_answer(answer: &Answer, made: &mut Made) {
-    let alloc = made.alloc();
-    match answer {
-        Answer::Total(total) => made.print(&format_args!("{total} ")),
-        Answer::Top(top) => made.add_made(top_text(alloc, top)),
-        Answer::Flame(flame) => made.say_made(flame_json(alloc, flame)),
-        Answer::Folded(text) => made.add(text.as_slice()),
     }
 }

@@ -8,15 +8,15 @@ use pprof_profile::{
 };
 use row_scripts::{Made, Words, Wrong};
 use std::alloc::Global;
-use std::mem;
 
 /// `draft`: the canonical bytes of the draft that the lines describe, or the fault with which it is handed back. It is
 /// checked at each line `check` and at the end.
 pub(crate) fn make_draft(input: &[u8], made: &mut Made) {
-    let mut draft = empty_draft(made.alloc());
+    let mut drafts = Vec::new(made.alloc());
+    made.keep(&mut drafts, empty_draft(made.alloc()));
     for lines in made.text_of(input).split("check\n") {
-        add_lines(&mut draft, lines, made);
-        check_lines(&mut draft, made);
+        add_lines(&mut drafts, lines, made);
+        check_last(&mut drafts, made);
     }
 }
 
@@ -39,9 +39,11 @@ fn empty_draft(alloc: Global) -> Draft {
     }
 }
 
-fn check_lines(draft: &mut Draft, made: &mut Made) {
-    let empty = empty_draft(made.alloc());
-    *draft = checked(mem::replace(draft, empty), made);
+fn check_last(drafts: &mut Vec<Draft>, made: &mut Made) {
+    if let Some(draft) = drafts.pop() {
+        let draft = checked(draft, made);
+        made.keep(drafts, draft);
+    }
 }
 
 /// Checks a draft, which comes back.
@@ -58,30 +60,37 @@ fn checked(draft: Draft, made: &mut Made) -> Draft {
     }
 }
 
-fn add_lines(draft: &mut Draft, lines: &str, made: &mut Made) {
-    for line in lines.lines() {
-        add_line(draft, Words { text: line }, made);
+fn add_lines(drafts: &mut Vec<Draft>, lines: &str, made: &mut Made) {
+    if let Some(draft) = drafts.last_mut() {
+        for line in lines.lines() {
+            add_line(draft, Words { text: line }, made);
+        }
     }
 }
 
 fn add_line(draft: &mut Draft, words: Words, made: &mut Made) {
-    let key = words.word(0);
-    let is_added = match key {
-        "period_type" => {
-            draft.period_type = value_type_of(words, made);
-            true
-        }
+    let is_added = match words.word(0) {
         "sample" => add_sample(draft, words, made),
         "mapping" => add_mapping(draft, words, made),
         "location" => add_location(draft, words, made),
         "function" => add_function(draft, words, made),
-        "string" => add_string(draft, words.word(1), made),
-        "comment" => draft.comments.push(number_after(words, key, made)).is_ok(),
-        "sample_type" => draft.sample_types.push(value_type_of(words, made)).is_ok(),
-        _ => set_number(draft, words, key, made),
+        key => add_field(draft, words, key, made),
     };
     if !is_added {
         made.fail(Wrong::Line);
+    }
+}
+
+fn add_field(draft: &mut Draft, words: Words, key: &str, made: &mut Made) -> bool {
+    match key {
+        "string" => add_string(draft, words.word(1), made),
+        "comment" => draft.comments.push(number_after(words, key, made)).is_ok(),
+        "sample_type" => draft.sample_types.push(value_type_of(words, made)).is_ok(),
+        "period_type" => {
+            draft.period_type = value_type_of(words, made);
+            true
+        }
+        _ => set_number(draft, words, key, made),
     }
 }
 
@@ -140,13 +149,15 @@ fn fill_sample(sample: &mut Sample, words: Words, made: &mut Made) -> bool {
     let location_id = id_after(words, "location_id", made);
     let has_location = sample.location_ids.push(location_id).is_ok();
     let has_label = !words.has("key") || sample.labels.push(label_of(words, made)).is_ok();
-    let values = words.after("values").unwrap_or("");
+    has_location && has_label && add_values(sample, words.after("values").unwrap_or(""), made)
+}
+
+fn add_values(sample: &mut Sample, values: &str, made: &mut Made) -> bool {
+    let mut has_all = true;
     for value in values.split_terminator(',') {
-        if sample.values.push(made.number(value)).is_err() {
-            return false;
-        }
+        has_all &= sample.values.push(made.number(value)).is_ok();
     }
-    has_location && has_label
+    has_all
 }
 
 fn label_of(words: Words, made: &mut Made) -> SampleLabel {

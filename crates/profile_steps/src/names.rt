@@ -5,7 +5,7 @@ use row_scripts::{Made, Words, Wrong, first_line};
 use spelled_rows::{names_of, stack_of, values_of};
 use stack_text::{Name, Stack, Weights, Width};
 
-/// `name`: the input as a name. A copy of it, one that is kept, and a label have its text.
+/// `name`: the input as a name. One that is kept, and the label of a copy, have its text.
 pub(crate) fn make_name(input: &[u8], made: &mut Made) {
     match Name::make(made.alloc(), made.text_of(input)) {
         Ok(name) => add_name(&name, made),
@@ -16,7 +16,6 @@ pub(crate) fn make_name(input: &[u8], made: &mut Made) {
 fn add_name(name: &Name, made: &mut Made) {
     made.say(&name.text());
     made.compare("Name::keep", Name::keep(made.alloc(), name.text()), name);
-    made.compare("Name::clone", name.clone(), name);
     if let Some(copy) = made.done(name.clone()) {
         made.agree("Label::of", Label::of(copy).text() == name.text());
     }
@@ -34,10 +33,11 @@ pub(crate) fn clean_name(input: &[u8], made: &mut Made) {
 /// `stack`: how many frames the stack of a line has, or how many names come back.
 pub(crate) fn make_stack(input: &[u8], made: &mut Made) {
     let (frames, _) = first_line(made.text_of(input));
-    match Stack::make(names_of(frames, made)) {
-        Ok(stack) => made.say(&format_args!("{} frames", stack.names().len())),
-        Err(names) => made.say(&format_args!("{} names come back", names.len())),
-    }
+    let (count, what) = match Stack::make(names_of(frames, made)) {
+        Ok(stack) => (stack.names().len(), "frames"),
+        Err(names) => (names.len(), "names come back"),
+    };
+    made.say(&format_args!("{count} {what}"));
 }
 
 /// `compare`: how the stack of a line stands to that of the next, and whether they are equal.

@@ -10,9 +10,19 @@ pub(crate) fn read_profile(words: Words, input: &[u8], made: &mut Made) {
     if words.has("each") {
         return try_each(words, input, made);
     }
-    match decode(made.alloc(), input) {
-        Ok(profile) => answer_by(words, &profile, made),
-        Err(fault) => made.refuse(&fault),
+    if let Some(fault) = fault_of(words, input, made) {
+        made.refuse(&fault);
+    }
+}
+
+/// The fault of bytes, or none where they are a profile's, which is answered by.
+fn fault_of(words: Words, bytes: &[u8], made: &mut Made) -> Option<ProfileFault> {
+    match decode(made.alloc(), bytes) {
+        Ok(profile) => {
+            answer_by(words, &profile, made);
+            None
+        }
+        Err(fault) => Some(fault),
     }
 }
 
@@ -24,30 +34,32 @@ fn answer_by(words: Words, profile: &Profile, made: &mut Made) {
     }
 }
 
-/// Adds the canonical bytes of a profile, which have to read back as that profile.
+/// Adds the canonical bytes of a profile, which have to read back as a profile with the same.
 pub(crate) fn say_profile(profile: &Profile, made: &mut Made) {
-    match encode(made.alloc(), profile) {
-        Ok(bytes) => add_read_back(profile, bytes.as_slice(), made),
-        Err(_) => made.fail(Wrong::NoMemory),
-    }
+    let mut written = Made::new(made.alloc());
+    add_encoded(profile, &mut written);
+    made.add(written.bytes());
+    made.fail_as(&written);
+    expect_again(written.bytes(), made);
 }
 
-fn add_read_back(profile: &Profile, bytes: &[u8], made: &mut Made) {
-    made.add(bytes);
-    let mut shown = Made::new(made.alloc());
-    shown.print(&"Ok(");
-    shown.print(&format_args!("{profile:?}"));
-    shown.say(&")");
+fn add_encoded(profile: &Profile, made: &mut Made) {
+    made.add_made(encode(made.alloc(), profile));
+}
+
+fn expect_again(bytes: &[u8], made: &mut Made) {
     let mut again = Made::new(made.alloc());
-    show_read(bytes, &mut again);
-    if shown.wrong().is_some() || shown.bytes() != again.bytes() {
+    read_again(bytes, &mut again);
+    if again.wrong().is_some() || again.bytes() != bytes {
         made.fail(Wrong::Unequal);
     }
 }
 
-fn show_read(bytes: &[u8], made: &mut Made) {
-    let read = decode(made.alloc(), bytes);
-    made.show(&read);
+fn read_again(bytes: &[u8], made: &mut Made) {
+    match decode(made.alloc(), bytes) {
+        Ok(profile) => add_encoded(&profile, made),
+        Err(_) => made.fail(Wrong::Unequal),
+    }
 }
 
 /// Adds the bytes of a profile with a sample of location 1 and of value 7 in the place of its own samples.
@@ -60,86 +72,87 @@ fn say_around(profile: &Profile, made: &mut Made) {
     made.add_made(encode_around(alloc, profile.draft(), &samples));
 }
 
-/// The fault of bytes. A profile has none.
-type Answer = Option<ProfileFault>;
+/// What bytes answer, how often, and where.
+#[derive(Drop)]
+struct Seen {
+    /// The fault of the bytes. A profile has none.
+    fault: Option<ProfileFault>,
+    count: u64,
+    places: Made,
+}
 
 fn try_each(words: Words, input: &[u8], made: &mut Made) {
-    let mut answers = Vec::new(made.alloc());
+    let mut seen = Vec::new(made.alloc());
     match words.word(2) {
-        "cut" => try_cuts(input, &mut answers, made),
-        "bit" => try_bits(input, &mut answers, made),
+        "cut" => try_cuts(input, &mut seen, made),
+        "bit" => try_bits(input, &mut seen, made),
         _ => made.fail(Wrong::Command),
     }
-    say_answers(answers.as_slice(), made);
-}
-
-fn try_cuts(input: &[u8], answers: &mut Vec<Answer>, made: &mut Made) {
-    for length in 0..input.len() {
-        let answer = answer_of(input.get(..length).unwrap_or(input), made);
-        made.keep(answers, answer);
+    for one in &seen {
+        say_seen(one, made);
     }
 }
 
-fn try_bits(input: &[u8], answers: &mut Vec<Answer>, made: &mut Made) {
-    for bit in 0..input.len().saturating_mul(8) {
-        let answer = answer_with(input, bit, made);
-        made.keep(answers, answer);
+fn try_cuts(input: &[u8], seen: &mut Vec<Seen>, made: &mut Made) {
+    for place in 0..input.len() {
+        try_bytes(input.get(..place).unwrap_or(input), place, seen, made);
     }
 }
 
-/// What the bytes answer with one bit changed.
-fn answer_with(input: &[u8], bit: usize, made: &mut Made) -> Answer {
-    let mut changed = Made::new(made.alloc());
-    changed.add(input);
-    if let Some(byte) = changed.writer().get_mut(bit / 8) {
-        *byte ^= 1 << (bit % 8);
-    }
-    answer_of(changed.bytes(), made)
-}
-
-/// What bytes answer. The canonical bytes of a profile have to read back.
-fn answer_of(bytes: &[u8], made: &mut Made) -> Answer {
-    match decode(made.alloc(), bytes) {
-        Ok(profile) => {
-            expect_read_back(&profile, made);
-            None
+fn try_bits(input: &[u8], seen: &mut Vec<Seen>, made: &mut Made) {
+    for place in 0..input.len().saturating_mul(8) {
+        let mut changed = Made::new(made.alloc());
+        changed.add(input);
+        if let Some(byte) = changed.writer().get_mut(place / 8) {
+            *byte ^= 1 << (place % 8);
         }
-        Err(fault) => Some(fault),
+        try_bytes(changed.bytes(), place, seen, made);
     }
 }
 
-fn expect_read_back(profile: &Profile, made: &mut Made) {
+/// Counts what bytes answer.
+fn try_bytes(bytes: &[u8], place: usize, seen: &mut Vec<Seen>, made: &mut Made) {
     let mut written = Made::new(made.alloc());
-    say_profile(profile, &mut written);
+    let fault = fault_of(Words { text: "profile" }, bytes, &mut written);
     made.fail_as(&written);
+    count_fault(fault, place, seen, made);
 }
 
-/// Adds how often each answer came, in the order in which they came first; where it came to few places, these too.
-fn say_answers(answers: &[Answer], made: &mut Made) {
-    for (place, answer) in answers.iter().enumerate() {
-        if answers.iter().position(|other| other == answer) == Some(place) {
-            let count = answers.iter().filter(|other| *other == answer).count();
-            say_count(answer, count, made);
-            if count <= 12 {
-                say_places(answers, answer, made);
-            }
-            made.push(b'\n');
+/// Counts a fault, in the order in which they come first.
+fn count_fault(fault: Option<ProfileFault>, place: usize, seen: &mut Vec<Seen>, made: &mut Made) {
+    let mut index = seen.len();
+    for (at, one) in seen.iter().enumerate() {
+        if one.fault == fault {
+            index = at;
         }
     }
-}
-
-fn say_count(answer: &Answer, count: usize, made: &mut Made) {
-    match answer {
-        None => made.print(&format_args!("{count} profiles")),
-        Some(fault) => made.print(&format_args!("{count} {fault}")),
+    if index == seen.len() {
+        let places = Made::new(made.alloc());
+        made.keep(
+            seen,
+            Seen {
+                fault,
+                count: 0,
+                places,
+            },
+        );
+    }
+    if let Some(one) = seen.get_mut(index) {
+        one.count = one.count.saturating_add(1);
+        one.places.print(&format_args!(" {place}"));
     }
 }
 
-fn say_places(answers: &[Answer], answer: &Answer, made: &mut Made) {
-    made.print(&" at");
-    for (place, other) in answers.iter().enumerate() {
-        if other == answer {
-            made.print(&format_args!(" {place}"));
-        }
+/// Adds how often an answer came; where it came to few places, these too.
+fn say_seen(one: &Seen, made: &mut Made) {
+    match one.fault {
+        None => made.print(&format_args!("{} profiles", one.count)),
+        Some(fault) => made.print(&format_args!("{} {fault}", one.count)),
     }
+    if one.count <= 12 {
+        made.print(&" at");
+        made.add(one.places.bytes());
+    }
+    made.fail_as(&one.places);
+    made.push(b'\n');
 }

@@ -2,12 +2,9 @@
 
 use crate::batches::Asked;
 use crate::trees;
-use flame_report::{
-    Answer, Flame, Kind, Query, Rank, Rect, flame_json, report_in_order, report_of,
-    report_of_stacks, top_list, top_text,
-};
+use flame_report::{Answer, Query, report_in_order, report_of, report_of_stacks};
 use row_scripts::{Made, Wrong};
-use spelled_rows::{kind_name, query_of};
+use spelled_rows::{KINDS, add_answer, counts_names, kind_name, query_of, top_answer};
 use stack_text::{
     Batch, FrameTotals, Hashing, LineSums, WeightedStacks, folded_totals, kept_totals, merge_lines,
     read_ordered,
@@ -22,7 +19,7 @@ pub(crate) fn run(asked: Asked, batch: &Batch, made: &mut Made) {
     if kind != "each" {
         return answer(asked, batch, kind, made);
     }
-    for kind in ["total", "flat", "cum", "folded", "flame"] {
+    for kind in KINDS {
         answer(asked, batch, kind, made);
     }
 }
@@ -36,41 +33,46 @@ pub(crate) struct Given<'a> {
     pub(crate) answer: &'a Answer,
 }
 
+/// Adds the answer, and tells of the ways that answer otherwise.
 fn answer(asked: Asked, batch: &Batch, kind: &str, made: &mut Made) {
     let query = query_of(asked.words, kind, made);
-    agree_all(asked, batch, &query, made);
-}
-
-/// Adds the answer, and tells of the ways that answer otherwise.
-fn agree_all(asked: Asked, batch: &Batch, query: &Query, made: &mut Made) {
-    let alloc = made.alloc();
     if query.value >= batch.width().get() {
         return made.fail(Wrong::Missing);
     }
-    let again = report_of(alloc, asked.hashing, batch, query);
-    match batch.weighted_stacks(alloc, query.value) {
-        Ok(stacks) => match report_of(alloc, Hashing::fixed(), batch, query) {
-            Ok(answer) => {
-                let given = Given {
-                    asked,
-                    batch,
-                    query,
-                    answer: &answer,
-                };
-                add_answer(asked, &answer, made);
-                made.compare("report_of", again, &answer);
-                agree_on_all_ways(given, &stacks, made);
-            }
-            Err(_) => made.fail(Wrong::NoMemory),
-        },
+    match report_of(made.alloc(), Hashing::fixed(), batch, &query) {
+        Ok(answer) => {
+            let given = Given {
+                asked,
+                batch,
+                query: &query,
+                answer: &answer,
+            };
+            add_answer(asked.words, &answer, made);
+            made.end_line(b'\n');
+            agree_on_all_ways(given, made);
+        }
         Err(_) => made.fail(Wrong::NoMemory),
     }
 }
 
-/// The other ways. The rows are those by the value that the query names.
-fn agree_on_all_ways(given: Given, stacks: &WeightedStacks, made: &mut Made) {
-    if let Kind::Top { rank, count } = given.query.kind {
-        agree_on_names(given, stacks, rank, count, made);
+/// The other ways.
+fn agree_on_all_ways(given: Given, made: &mut Made) {
+    let (alloc, batch, query) = (made.alloc(), given.batch, given.query);
+    if query.value >= batch.width().get() {
+        return made.fail(Wrong::Missing);
+    }
+    let again = report_of(alloc, given.asked.hashing, batch, query);
+    made.compare("report_of", again, given.answer);
+    match batch.weighted_stacks(alloc, query.value) {
+        Ok(stacks) => agree_on_rows(given, &stacks, made),
+        Err(_) => made.fail(Wrong::NoMemory),
+    }
+}
+
+/// The ways over rows by the value that the query names.
+fn agree_on_rows(given: Given, stacks: &WeightedStacks, made: &mut Made) {
+    if counts_names(given.query) {
+        agree_on_names(given, stacks, made);
     }
     if given.asked.words.has("alone") {
         return;
@@ -78,8 +80,9 @@ fn agree_on_all_ways(given: Given, stacks: &WeightedStacks, made: &mut Made) {
     agree_on_stacks(given, "report_of_stacks", stacks.share(), made);
     if given.asked.has_folded_text() {
         agree_on_text(given, made);
+        agree_on_order(given, made);
     }
-    trees::agree_on_report(&given, made);
+    trees::agree_on_report(given, made);
 }
 
 /// The answer over rows of one value, whichever value the query names.
@@ -100,7 +103,7 @@ fn agree_on_stacks<E: Drop>(
     }
 }
 
-/// The answer over folded text that is read in order, and over its merged lines, also of two pieces.
+/// The answer over the merged lines of folded text, also of two pieces.
 fn agree_on_text(given: Given, made: &mut Made) {
     let (alloc, hashing, text) = (made.alloc(), given.asked.hashing, given.asked.input);
     agree_on_stacks(
@@ -111,6 +114,11 @@ fn agree_on_text(given: Given, made: &mut Made) {
     );
     let sums = sums_of_pieces(alloc, hashing, text);
     agree_on_stacks(given, "LineSums", sums.stacks(), made);
+}
+
+/// The answer over folded text that is read in order.
+fn agree_on_order(given: Given, made: &mut Made) {
+    let (alloc, hashing, text) = (made.alloc(), given.asked.hashing, given.asked.input);
     match read_ordered(alloc, hashing, text) {
         Ok(ordered) => made.compare(
             "report_in_order",
@@ -132,72 +140,21 @@ fn sums_of_pieces(alloc: Global, hashing: Hashing, text: &[u8]) -> LineSums {
     sums
 }
 
-/// Adds an answer as text. A folded report is followed by how many lines it has.
-fn add_answer(asked: Asked, answer: &Answer, made: &mut Made) {
-    let alloc = made.alloc();
-    match answer {
-        Answer::Total(total) => made.say(total),
-        Answer::Top(top) => made.add_made(top_text(alloc, top)),
-        Answer::Flame(flame) if asked.words.has("layout") => add_layout(flame, made),
-        Answer::Flame(flame) => made.say_made(flame_json(alloc, flame)),
-        Answer::Folded(text) => {
-            made.add(text.as_slice());
-            let count = text.as_slice().split(|byte| *byte == b'\n').count();
-            made.say(&format_args!("{} rows", count.saturating_sub(1)));
-        }
-    }
-}
-
-/// Adds a line for each rectangle. The JSON text has as many.
-fn add_layout(flame: &Flame, made: &mut Made) {
-    made.say(&format_args!("total {}", flame.total));
-    for rect in flame.rects.as_slice() {
-        add_rect(rect, made);
-    }
-    match flame_json(made.alloc(), flame) {
-        Ok(json) => {
-            let count = json.matches("\"depth\":").count();
-            made.agree("flame_json", count == flame.rects.as_slice().len());
-        }
-        Err(_) => made.fail(Wrong::NoMemory),
-    }
-}
-
-/// Depth, x, weight, left, how many columns, name.
-fn add_rect(rect: &Rect, made: &mut Made) {
-    let columns = rect.right.saturating_sub(rect.left);
-    let (depth, left) = (u64::from(rect.depth), u64::from(rect.left));
-    for number in [depth, rect.x, rect.weight, left, u64::from(columns)] {
-        made.print(&format_args!("{number} "));
-    }
-    made.show(&rect.name.text());
-}
-
-/// The ways that count names, where a top list is asked for.
-fn agree_on_names(given: Given, stacks: &WeightedStacks, rank: Rank, count: u32, made: &mut Made) {
+/// The ways that count names, where a list of these is asked for.
+fn agree_on_names(given: Given, stacks: &WeightedStacks, made: &mut Made) {
     let (alloc, hashing, query) = (made.alloc(), given.asked.hashing, given.query);
     let (focus, ignored) = (query.focus.as_ref(), query.ignore.as_ref());
     let totals = kept_totals(alloc, hashing, stacks, focus, ignored);
-    agree_on_top(given, "kept_totals", totals, rank, count, made);
+    agree_on_top(given, "kept_totals", totals, made);
     if given.asked.has_folded_text() && query.keeps_all() {
         let totals = folded_totals(alloc, hashing, given.asked.input);
-        agree_on_top(given, "folded_totals", totals, rank, count, made);
+        agree_on_top(given, "folded_totals", totals, made);
     }
 }
 
-fn agree_on_top<E: Drop>(
-    given: Given,
-    way: &str,
-    totals: Result<FrameTotals, E>,
-    rank: Rank,
-    count: u32,
-    made: &mut Made,
-) {
-    let Ok(totals) = totals else {
-        return made.fail(Wrong::Missing);
-    };
-    match top_list(totals, rank, count) {
-        Ok(top) => made.agree(way, Answer::Top(top) == *given.answer),
-        Err(_) => made.fail(Wrong::NoMemory),
+fn agree_on_top<E: Drop>(given: Given, way: &str, totals: Result<FrameTotals, E>, made: &mut Made) {
+    match totals {
+        Ok(totals) => made.compare(way, top_answer(given.query, totals), given.answer),
+        Err(_) => made.fail(Wrong::Missing),
     }
 }

@@ -1,10 +1,9 @@
 //! Samples of profiles as rows, and rows as profiles.
 
 use crate::profiles::{read_profile, say_profile};
-use flame_report::{Rank, top_list, top_text};
 use pprof_profile::Profile;
 use row_scripts::{Made, Words, Wrong};
-use spelled_rows::add_values;
+use spelled_rows::{add_answer, add_values, query_of, top_answer, width_of};
 use stack_text::{
     Batch, FrameTotals, Hashing, Name, ValueChoice, ValueUnit, batch_of, batch_of_with,
     export_folded, merge_samples, profile_of, read_folded, sample_totals, unfold, write_stacks,
@@ -53,9 +52,10 @@ fn say_top(words: Words, profile: &Profile, made: &mut Made) {
 }
 
 fn add_top(totals: FrameTotals, made: &mut Made) {
-    match top_list(totals, Rank::Flat, 20) {
-        Ok(top) => made.add_made(top_text(made.alloc(), &top)),
-        Err(_) => made.fail(Wrong::NoMemory),
+    let words = Words { text: "" };
+    let query = query_of(words, "top", made);
+    if let Some(top) = made.done(top_answer(&query, totals)) {
+        add_answer(words, &top, made);
     }
 }
 
@@ -99,10 +99,14 @@ fn export_samples(words: Words, profile: &Profile, made: &mut Made) {
 
 fn export_rows(words: Words, rows: &Batch, made: &mut Made) {
     let units = units_of(words, made);
+    export_units(units.as_slice(), rows, made);
+}
+
+fn export_units(units: &[ValueUnit], rows: &Batch, made: &mut Made) {
     if units.len() != rows.width().get() as usize {
         return made.fail(Wrong::Missing);
     }
-    match profile_of(made.alloc(), rows, units.as_slice()) {
+    match profile_of(made.alloc(), rows, units) {
         Ok(profile) => say_profile(&profile, made),
         Err(_) => made.fail(Wrong::NoMemory),
     }
@@ -119,11 +123,20 @@ fn units_of<'a>(words: Words<'a>, made: &mut Made) -> Vec<ValueUnit<'a>> {
     units
 }
 
-/// `export cpu/ns`: the bytes of the profile of folded text. `export rows cpu/ns` makes a batch of it first.
+/// `export cpu/ns`: the bytes of the profile of folded text. `export rows cpu/ns` makes a batch of it first, and
+/// `export rows cpu/ns samples/count width 2` one of rows with so many values.
 pub(crate) fn export(words: Words, input: &[u8], made: &mut Made) {
-    if !words.has("rows") {
-        return export_text(words, input, made);
+    if words.has("width") {
+        let width = width_of(words, made);
+        export_rows(words, &spelled_rows::batch_of(width, input, made), made);
+    } else if words.has("rows") {
+        export_folded_rows(words, input, made);
+    } else {
+        export_text(words, input, made);
     }
+}
+
+fn export_folded_rows(words: Words, input: &[u8], made: &mut Made) {
     match read_folded(made.alloc(), input) {
         Ok(rows) => export_rows(words, &rows, made),
         Err(fault) => made.refuse(&fault),

@@ -1,6 +1,7 @@
 //! Call trees that grow: the scene `tree width 1`.
 
-ghost use Rattle.std.specs.Prelude.{◌≡◌, IfSome};
+ghost use Rattle.std.specs.Prelude.{◌≡◌, IfSome, IsTrue};
+ghost use Rattle.call_tree.specs.Plans.{HasRoomFor};
 
 use crate::reports::Given;
 use call_tree::{CallTree, Grower, Plan};
@@ -11,92 +12,59 @@ use stack_text::{Batch, Hashing, NoMemory, first_heavy, read_folded};
 use std::alloc::Global;
 use std::mem;
 
+/// Whether the tree has as many values as rows, and room for them.
+fn has_room(grower: &Grower, rows: &Batch) -> bool
+    ensures { IsTrue result → HasRoomFor grower.now rows.now }
+{
+    if grower.tree().width() != rows.width() {
+        return false;
+    }
+    let held = grower.tree().total();
+    if let Some(_) = first_heavy(&held, &rows.total()) {
+        return false;
+    }
+    true
+}
+
 /// The plan of rows, where they have room and there is memory.
 fn plan_of(alloc: Global, grower: &mut Grower, rows: &Batch) -> Option<Plan>
     ensures { IfSome result (λ plan. plan.before ≡ grower.new) }
 {
-    if grower.tree().width() != rows.width() {
-        return None;
-    }
-    let held = grower.tree().total();
-    if let Some(_) = first_heavy(&held, &rows.total()) {
+    if !has_room(grower, rows) {
         return None;
     }
     grower.plan(alloc, rows).ok()
 }
 
-/// Adds rows at once. It gives false where it can't.
-fn add(alloc: Global, grower: &mut Grower, rows: &Batch) -> bool {
-    if grower.tree().width() != rows.width() {
-        return false;
-    }
-    let held = grower.tree().total();
-    if let Some(_) = first_heavy(&held, &rows.total()) {
-        return false;
-    }
-    grower.add(alloc, rows).is_ok()
-}
-
-/// The grower with rows added, which it takes and gives.
-fn with_rows(alloc: Global, grower: Grower, rows: &Batch) -> Option<Grower> {
-    if grower.tree().width() != rows.width() {
-        return None;
-    }
-    let held = grower.tree().total();
-    if let Some(_) = first_heavy(&held, &rows.total()) {
-        return None;
-    }
-    grower.with_batch(alloc, rows).ok()
-}
-
-/// A grower to which rows were credited.
-fn grower_of(alloc: Global, rows: &Batch) -> Option<Grower> {
-    let mut grower = Grower::new(alloc, rows.width()).ok()?;
-    let plan = plan_of(alloc, &mut grower, rows)?;
-    grower.credit(plan);
-    Some(grower)
-}
-
-/// Whether the tree of rows has these sums.
-pub(crate) fn agree_on_rows(rows: &Batch, sums: &Batch, made: &mut Made) {
-    let alloc = made.alloc();
-    match grower_of(alloc, rows) {
-        Some(grower) => made.compare("CallTree::rows", grower.tree().rows(alloc), sums),
-        None => made.fail(Wrong::Missing),
-    }
-}
-
-/// Whether the tree of rows, and a share of it, answer as the rows do.
-pub(crate) fn agree_on_report(given: &Given, made: &mut Made) {
-    match grower_of(made.alloc(), given.batch) {
-        Some(grower) => {
-            agree_on_answer(grower.tree(), given, "report", made);
-            agree_on_share(grower.tree(), given, made);
-        }
-        None => made.fail(Wrong::Missing),
-    }
-}
-
-fn agree_on_share(tree: &CallTree, given: &Given, made: &mut Made) {
-    match tree.share() {
-        Ok(share) => agree_on_answer(&share, given, "report of a share", made),
+/// Whether the tree of rows answers as the rows do.
+pub(crate) fn agree_on_report(given: Given, made: &mut Made) {
+    match Grower::new(made.alloc(), given.batch.width()) {
+        Ok(mut grower) => agree_on_grown(&mut grower, given, made),
         Err(_) => made.fail(Wrong::NoMemory),
     }
 }
 
-fn agree_on_answer(tree: &CallTree, given: &Given, way: &str, made: &mut Made) {
+fn agree_on_grown(grower: &mut Grower, given: Given, made: &mut Made) {
+    if has_room(grower, given.batch) && grower.add(made.alloc(), given.batch).is_ok() {
+        agree_on_answer(grower.tree(), given, made);
+    } else {
+        made.fail(Wrong::Missing);
+    }
+}
+
+fn agree_on_answer(tree: &CallTree, given: Given, made: &mut Made) {
     if given.query.value >= tree.width().get() {
         return made.fail(Wrong::Missing);
     }
     let answer = report(made.alloc(), tree, given.query);
-    made.compare(way, answer, given.answer);
+    made.compare("report", answer, given.answer);
 }
 
 /// A tree that grows, and a share of it as it was.
 #[derive(Drop)]
 struct Growing {
     grower: Grower,
-    shared: CallTree,
+    shared: Option<CallTree>,
 }
 
 /// `tree width 1`: an empty tree, and what the steps after it in the block make of it.
@@ -130,30 +98,31 @@ impl Growing {
         let hashing = Hashing::of_key(7);
         let grower = Grower::with_hashing(made.alloc(), hashing, width_of(words, made));
         let grower = made.done(grower)?;
-        let shared = made.done(grower.tree().share())?;
-        add_total(&shared, made);
-        Some(Growing { grower, shared })
+        add_total(grower.tree(), made);
+        Some(Growing {
+            grower,
+            shared: None,
+        })
     }
 
     /// The tree that a step asks: its own, or the share.
     fn tree_of(&self, words: Words) -> &CallTree {
-        match words.after("of") {
-            Some("share") => &self.shared,
+        match &self.shared {
+            Some(shared) if words.has("share") => shared,
             _ => self.grower.tree(),
         }
     }
 
     fn share(&mut self, made: &mut Made) {
-        match self.grower.tree().share() {
-            Ok(shared) => self.shared = shared,
-            Err(_) => made.fail(Wrong::NoMemory),
+        self.shared = made.done(self.grower.tree().share());
+        if let Some(shared) = &self.shared {
+            add_total(shared, made);
         }
-        add_total(&self.shared, made);
     }
 
     /// Adds the rows of a step: folded text where they have one value.
     fn grow(&mut self, words: Words, input: &[u8], made: &mut Made) {
-        let width = self.shared.width();
+        let width = self.grower.tree().width();
         if width.get() > 1 {
             let rows = spelled_rows::batch_of(width, input, made);
             return grow(&mut self.grower, words, &rows, made);
@@ -167,10 +136,11 @@ impl Growing {
 
 /// `plan`, `plan dropped`, `add`, `give`: adds rows.
 fn grow(grower: &mut Grower, words: Words, rows: &Batch, made: &mut Made) {
+    let alloc = made.alloc();
     let is_done = match words.word(0) {
         "plan" => return plan(grower, rows, words, made),
-        "add" => add(made.alloc(), grower, rows),
-        "give" => give(made.alloc(), grower, rows),
+        "add" => has_room(grower, rows) && grower.add(alloc, rows).is_ok(),
+        "give" => give(alloc, grower, rows),
         _ => false,
     };
     if !is_done {
@@ -179,15 +149,21 @@ fn grow(grower: &mut Grower, words: Words, rows: &Batch, made: &mut Made) {
     add_total(grower.tree(), made);
 }
 
+/// The grower is taken, and given with rows added. It gives false where it can't.
 fn give(alloc: Global, grower: &mut Grower, rows: &Batch) -> bool {
+    if !has_room(grower, rows) {
+        return false;
+    }
     let Ok(empty) = Grower::new(alloc, rows.width()) else {
         return false;
     };
-    match with_rows(alloc, mem::replace(grower, empty), rows) {
-        Some(grown) => *grower = grown,
-        None => return false,
+    match mem::replace(grower, empty).with_batch(alloc, rows) {
+        Ok(grown) => {
+            *grower = grown;
+            true
+        }
+        Err(_) => false,
     }
-    true
 }
 
 /// Plans rows and credits the plan, or drops it. It tells the total that the tree would have, and the one that it has.
@@ -210,8 +186,7 @@ fn credit(grower: &mut Grower, plan: Plan, words: Words, made: &mut Made)
     requires { plan.before ≡ grower.old }
 {
     let (next, now) = (plan.next().total(), grower.tree().total());
-    made.print(&format_args!("next {:?}", next.values()));
-    made.say(&format_args!(", now {:?}", now.values()));
+    made.say(&format_args!("next {:?}, now {:?}", next.values(), now.values()));
     if !words.has("dropped") {
         grower.credit(plan);
     }

@@ -49,16 +49,18 @@ pub(crate) fn read_fields(input: &[u8], made: &mut Made) {
 
 fn say_field(field: Field, made: &mut Made) {
     let Field { number, value } = field;
-    made.print(&number);
-    match value {
-        Value::Varint(value) => made.say(&format_args!(" varint {value}")),
-        Value::Fixed64(value) => made.say(&format_args!(" fixed64 {value}")),
-        Value::Fixed32(value) => made.say(&format_args!(" fixed32 {value}")),
-        Value::Bytes(value) => {
-            let text = made.text_of(value);
-            made.say(&format_args!(" bytes {text:?}"));
-        }
-    }
+    let (kind, value) = match value {
+        Value::Varint(value) => ("varint", value),
+        Value::Fixed64(value) => ("fixed64", value),
+        Value::Fixed32(value) => ("fixed32", u64::from(value)),
+        Value::Bytes(value) => return say_bytes(number, value, made),
+    };
+    made.say(&format_args!("{number} {kind} {value}"));
+}
+
+fn say_bytes(number: u32, value: &[u8], made: &mut Made) {
+    let text = made.text_of(value);
+    made.say(&format_args!("{number} bytes {text:?}"));
 }
 
 /// How many fields the bytes have, and the fault after them. What it ensures is proved of the public clauses alone.

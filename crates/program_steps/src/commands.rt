@@ -2,7 +2,7 @@
 
 use crate::program::Run;
 use crate::streams::Streams;
-use crate::{faults, hashes, live, sources};
+use crate::{hashes, live, sources};
 use row_scripts::{Checker, Made, Words, Wrong};
 use std::random::RandomSource;
 use std::sync::Wait;
@@ -41,8 +41,6 @@ pub fn run_command<R: Threads + Wait + RandomSource + Clock + Sync>(
 ) {
     match words.word(0) {
         "hashes" => hashes::compare(rt, input, made),
-        "memory" => faults::tell_memory(made),
-        "faults" => faults::tell(words, made),
         "live" => live::run_live(rt, words, input, made),
         "sources" => sources::fill(rt, input, made),
         _ => made.fail(Wrong::Command),

@@ -8,8 +8,8 @@ use profile_store::{
 };
 use row_scripts::{Made, Words, Wrong};
 
-/// `memory faults`: what calls answer that are out of memory.
-pub(crate) fn tell_memory(made: &mut Made) {
+/// What calls answer that are out of memory.
+fn tell_memory(made: &mut Made) {
     made.refuse(&NoMemory);
     made.refuse(&FoldedFault::NoMemory);
     made.refuse(&PushFault::NoMemory);
@@ -23,9 +23,11 @@ pub(crate) fn tell_memory(made: &mut Made) {
     made.refuse(&AuditFault::NoMemory);
 }
 
-/// `faults live`, `faults end`: what `live` makes of each cause, and how the program ends by each fault of a store.
-pub(crate) fn tell(words: Words, made: &mut Made) {
+/// `faults memory`, `faults live`, `faults end`: what calls answer that are out of memory, what `live` makes of each
+/// cause, and how the program ends by each fault of a store.
+pub fn tell_faults(words: Words, made: &mut Made) {
     match words.word(1) {
+        "memory" => tell_memory(made),
         "live" => tell_causes(made),
         "end" => tell_ends(made),
         _ => made.fail(Wrong::Command),

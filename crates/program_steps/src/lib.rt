@@ -10,4 +10,5 @@ mod sources;
 mod streams;
 
 pub use commands::{run_command, run_program};
+pub use faults::tell_faults;
 pub use streams::Streams;

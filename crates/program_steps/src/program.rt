@@ -139,25 +139,9 @@ impl<'a, T: Threads + Wait + RandomSource + Sync> Run<'a, T> {
     /// Runs in which each read fails in turn, once and from then on. The last of them is that which would find the end
     /// of the input.
     fn each_read(self, command: &str, ends: &mut Ends, made: &mut Made) {
+        let places = self.input.len().saturating_add(1);
         for is_lasting in [false, true] {
-            self.add_failing_reads(command, is_lasting, ends, made);
-        }
-    }
-
-    fn add_failing_reads(self, command: &str, is_lasting: bool, ends: &mut Ends, made: &mut Made) {
-        for place in 0..self.input.len().saturating_add(1) {
-            let streams = self.streams.failing_reads(Fault { place, is_lasting });
-            self.with(streams).once(command, &mut ends.next);
-            ends.add(made);
-        }
-    }
-
-    fn with(self, streams: Streams) -> Run<'a, T> {
-        Run {
-            rt: self.rt,
-            alloc: self.alloc,
-            streams,
-            input: self.input,
+            self.fail_each(command, places, is_lasting, b"", ends, made);
         }
     }
 
@@ -166,22 +150,26 @@ impl<'a, T: Threads + Wait + RandomSource + Sync> Run<'a, T> {
         let mut report = Made::new(self.alloc);
         self.once(command, &mut report);
         made.fail_as(&report);
+        let places = report.bytes().len();
         for is_lasting in [false, true] {
-            self.add_failing_writes(command, report.bytes(), is_lasting, ends, made);
+            self.fail_each(command, places, is_lasting, report.bytes(), ends, made);
         }
     }
 
-    fn add_failing_writes(
+    /// Runs with a fault at each of so many places: of writes where there is a report, and else of reads.
+    fn fail_each(
         self,
         command: &str,
-        report: &[u8],
+        places: usize,
         is_lasting: bool,
+        report: &[u8],
         ends: &mut Ends,
         made: &mut Made,
     ) {
-        for place in 0..report.len() {
-            let streams = self.streams.failing_writes(Fault { place, is_lasting });
-            self.with(streams).once(command, &mut ends.next);
+        for place in 0..places {
+            let fault = Fault { place, is_lasting };
+            let streams = self.streams.failing(fault, !report.is_empty());
+            Run { streams, ..self }.once(command, &mut ends.next);
             ends.next.drop_front(report.get(..place).unwrap_or(report));
             ends.add(made);
         }
@@ -194,10 +182,7 @@ impl<'a, T: Threads + Wait + RandomSource + Sync> Run<'a, T> {
             ("without", "text") => self.end_process(lack(ErrorKind::InvalidData), made),
             ("without", "memory") => self.end_process(lack(ErrorKind::OutOfMemory), made),
             ("without", _) => made.fail(Wrong::Command),
-            _ => match args_of(self.alloc, words.rest(1).text) {
-                Ok(words) => self.end_process(Ok(words), made),
-                Err(_) => made.fail(Wrong::NoMemory),
-            },
+            _ => self.end_process(Ok(args_of(words.rest(1).text, made)), made),
         }
     }
 
@@ -244,15 +229,14 @@ fn lack(kind: ErrorKind) -> io::Result<Args> {
 }
 
 /// Words as a process has them.
-fn args_of(alloc: Global, command: &str) -> Result<Args, AllocError> {
-    let mut words = Vec::new(alloc);
+fn args_of(command: &str, made: &mut Made) -> Args {
+    let mut words = Vec::new(made.alloc());
     for word in command.split_whitespace() {
-        words
-            .push(String::from_str(alloc, plain(word))?)
-            .ok()
-            .ok_or(AllocError)?;
+        if let Some(word) = made.done(String::from_str(made.alloc(), plain(word))) {
+            made.keep(&mut words, word);
+        }
     }
-    Ok(words.into_iter())
+    words.into_iter()
 }
 
 /// Adds a process's exit status, what it said, and whether that was said whole.
@@ -266,9 +250,13 @@ fn add_process(end: &End, said: &[u8], made: &mut Made) {
 
 /// An exit status, of those that the program has.
 fn status_of(code: &ExitCode) -> u8 {
-    (0..6)
-        .find(|status| *code == ExitCode::from(*status))
-        .unwrap_or(u8::MAX)
+    let mut found = u8::MAX;
+    for status in 0..6 {
+        if *code == ExitCode::from(status) {
+            found = status;
+        }
+    }
+    found
 }
 
 /// How some runs ended. Ends that are the same and come one after the other are told once.

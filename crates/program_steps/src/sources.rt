@@ -3,7 +3,7 @@
 use book_steps::{batch_of, query_of};
 use profile_store::{Answer, Batch, BookFault, Hashing, Query};
 use row_scripts::{Made, Words};
-use spelled_rows::{add_total, width_of};
+use spelled_rows::{add_total, is_total, width_of};
 use std::sync::atomic::{AtomicU64, Ordering};
 use std::sync::{Arc, Mutex, MutexGuard, Wait};
 use std::thread::Threads;
@@ -49,7 +49,7 @@ impl Watcher for Asking {
     }
 
     fn show(&self, answer: Result<&Answer, BookFault>) {
-        if let Ok(Answer::Total(_)) = answer {
+        if answer.is_ok_and(is_total) {
             let _ = self.totals.fetch_add(1, Ordering::SeqCst);
         }
     }

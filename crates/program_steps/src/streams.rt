@@ -37,6 +37,19 @@ impl Fault {
     }
 }
 
+/// Fails at the place of a fault, and after it. One that isn't lasting is gone then.
+fn strike(fault: &mut Option<Fault>, place: usize) -> io::Result<()> {
+    match *fault {
+        Some(struck) if struck.place <= place => {
+            if !struck.is_lasting {
+                *fault = None;
+            }
+            Err(io::Error::from(struck.kind()))
+        }
+        _ => Ok(()),
+    }
+}
+
 /// How the streams of a run behave.
 #[derive(Clone, Copy)]
 pub struct Streams {
@@ -81,20 +94,15 @@ impl Streams {
         }
     }
 
-    /// The same streams, of which reads fail so.
-    pub(crate) fn failing_reads(self, fault: Fault) -> Streams {
-        Streams {
-            read_fault: Some(fault),
-            ..self
+    /// The same streams, of which writes fail so, or else reads.
+    pub(crate) fn failing(self, fault: Fault, is_write: bool) -> Streams {
+        let mut streams = self;
+        if is_write {
+            streams.write_fault = Some(fault);
+        } else {
+            streams.read_fault = Some(fault);
         }
-    }
-
-    /// The same streams, of which writes fail so.
-    pub(crate) fn failing_writes(self, fault: Fault) -> Streams {
-        Streams {
-            write_fault: Some(fault),
-            ..self
-        }
+        streams
     }
 
     pub(crate) fn reader(self, rest: &[u8]) -> FakeReader<'_> {
@@ -128,14 +136,7 @@ pub(crate) struct FakeReader<'a> {
 
 impl Read for FakeReader<'_> {
     fn read(&mut self, buf: &mut [u8]) -> io::Result<usize> {
-        if let Some(fault) = self.fault {
-            if fault.place <= self.reads {
-                if !fault.is_lasting {
-                    self.fault = None;
-                }
-                return Err(io::Error::from(fault.kind()));
-            }
-        }
+        strike(&mut self.fault, self.reads)?;
         self.reads = self.reads.saturating_add(1);
         let count = self.rest.len().min(buf.len()).min(self.by);
         let (given, rest) = self.rest.split_at(count);
@@ -157,15 +158,10 @@ pub(crate) struct FakeWriter {
 
 impl Write for FakeWriter {
     fn write(&mut self, buf: &[u8]) -> io::Result<usize> {
+        strike(&mut self.fault, self.taken.len())?;
         let mut count = buf.len().min(self.takes);
         if let Some(fault) = self.fault {
-            if fault.place <= self.taken.len() {
-                if !fault.is_lasting {
-                    self.fault = None;
-                }
-                return Err(io::Error::from(fault.kind()));
-            }
-            count = count.min(fault.place - self.taken.len());
+            count = count.min(fault.place.saturating_sub(self.taken.len()));
         }
         self.taken.extend_from_slice(&buf[..count])?;
         Ok(count)

@@ -3,22 +3,13 @@
 use crate::made::{Made, Wrong};
 use crate::script::Words;
 use bstr::ByteSlice;
-use std::alloc::{AllocError, Global};
+use std::alloc::Global;
 
 /// Bytes with a name.
 #[derive(Drop)]
 struct Named {
-    name: String,
-    bytes: Vec<u8>,
-}
-
-impl Named {
-    fn make(alloc: Global, name: &str, bytes: &[u8]) -> Result<Named, AllocError> {
-        Ok(Named {
-            name: String::from_str(alloc, name)?,
-            bytes: Vec::from_slice(alloc, bytes)?,
-        })
-    }
+    name: Made,
+    bytes: Made,
 }
 
 /// The bytes that `let` gave a name.
@@ -35,39 +26,37 @@ impl Names {
         }
     }
 
-    /// Gives bytes a name. A later name counts before an earlier one. It gives false where there is no memory for it.
-    pub fn add(&mut self, alloc: Global, name: &str, bytes: &[u8]) -> bool {
-        match Named::make(alloc, name, bytes) {
-            Ok(named) => self.all.push(named).is_ok(),
-            Err(_) => false,
-        }
+    /// Gives bytes a name. A later name counts before an earlier one. That there is no memory for it is kept in `made`.
+    pub fn add(&mut self, name: &str, bytes: &[u8], made: &mut Made) {
+        let mut named = Named {
+            name: Made::new(made.alloc()),
+            bytes: Made::new(made.alloc()),
+        };
+        named.name.add(name.as_bytes());
+        named.bytes.add(bytes);
+        made.fail_as(&named.name);
+        made.fail_as(&named.bytes);
+        made.keep(&mut self.all, named);
     }
 
     /// The bytes of a name.
     pub fn find(&self, name: &str) -> Option<&[u8]> {
-        for named in self.all.iter().rev() {
-            if named.name.as_str() == name {
-                return Some(named.bytes.as_slice());
+        let mut found = None;
+        for named in self.all.as_slice() {
+            if named.name.bytes() == name.as_bytes() {
+                found = Some(named.bytes.bytes());
             }
         }
-        None
+        found
     }
 
-    /// Adds the bytes that the input of a step has, whose lines begin with `>`.
-    pub fn spell_input(&self, lines: &str, bytes: &mut Made) {
+    /// Adds the bytes that lines with this mark spell: with `>` the input of a step, and with `=` what it has to give.
+    /// To that belong lines with `!`, each a fault, which stands there as it is.
+    pub fn spell(&self, lines: &str, mark: char, bytes: &mut Made) {
         for line in lines.lines() {
-            if let Some(text) = line.strip_prefix('>') {
+            if let Some(text) = line.strip_prefix(mark) {
                 self.spell_line(text, bytes);
-            }
-        }
-    }
-
-    /// Adds the bytes that a step has to give. A line that begins with `!` is a fault, which stands there as it is.
-    pub fn spell_wanted(&self, lines: &str, bytes: &mut Made) {
-        for line in lines.lines() {
-            if let Some(text) = line.strip_prefix('=') {
-                self.spell_line(text, bytes);
-            } else if line.starts_with('!') {
+            } else if mark == '=' && line.starts_with('!') {
                 bytes.say(&line);
             }
         }

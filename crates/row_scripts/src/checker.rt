@@ -45,23 +45,21 @@ impl Checker {
     pub fn begin(&mut self, step: &Step) {
         self.input.clear();
         self.made.clear();
-        self.names.spell_input(step.lines, &mut self.input);
+        self.names.spell(step.lines, '>', &mut self.input);
     }
 
     /// Gives the input of the step a name.
     pub fn name_input(&mut self, name: &str) {
         if name.is_empty() {
             self.made.fail(Wrong::Command);
-        } else if !self.names.add(self.alloc, name, self.input.bytes()) {
-            self.made.fail(Wrong::NoMemory);
+        } else {
+            self.names.add(name, self.input.bytes(), &mut self.made);
         }
     }
 
     /// Gives what the step made a name. Nothing of it is left.
     pub fn name_made(&mut self, name: &str) {
-        if !self.names.add(self.alloc, name, self.made.bytes()) {
-            self.made.fail(Wrong::NoMemory);
-        }
+        self.names.add(name, self.made.bytes(), &mut self.input);
         self.made.truncate(0);
     }
 
@@ -86,10 +84,10 @@ impl Checker {
     /// Whether a step made what was wanted: all of it, or the parts that lines with `~` want.
     fn has_made(&mut self, step: &Step) -> bool {
         let made = self.made.bytes();
-        if step.lines.lines().any(|line| line.starts_with('~')) {
+        if step.lines.starts_with('~') || step.lines.contains("\n~") {
             self.names.has_parts(step.lines, made, &mut self.wanted)
         } else {
-            self.names.spell_wanted(step.lines, &mut self.wanted);
+            self.names.spell(step.lines, '=', &mut self.wanted);
             self.wanted.bytes() == made
         }
     }

@@ -151,16 +151,21 @@ impl Made {
 
     /// Adds a value as a line.
     pub fn say<D: Display>(&mut self, value: &D) {
-        if write!(self.bytes, "{value}\n").is_err() {
-            self.fail(Wrong::NoMemory);
+        self.print(value);
+        self.push(b'\n');
+    }
+
+    /// Ends a line that is begun, by a line feed or by what parts it from more of it.
+    pub fn end_line(&mut self, end: u8) {
+        if self.bytes.last().is_some_and(|byte| *byte != b'\n') {
+            self.push(end);
         }
     }
 
     /// Adds a fault as a line.
     pub fn refuse<D: Display>(&mut self, fault: &D) {
-        if write!(self.bytes, "! {fault}\n").is_err() {
-            self.fail(Wrong::NoMemory);
-        }
+        self.add(b"! ");
+        self.say(fault);
     }
 
     /// Adds a value as a line, as `{:?}` prints it.

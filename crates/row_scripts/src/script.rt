@@ -138,6 +138,10 @@ impl<'a> Words<'a> {
 
     /// Whether there is such a word.
     pub fn has(self, key: &str) -> bool {
-        self.text.split_whitespace().any(|word| word == key)
+        let mut has_key = false;
+        for word in self.text.split_whitespace() {
+            has_key = has_key || word == key;
+        }
+        has_key
     }
 }

@@ -5,7 +5,9 @@ mod queries;
 mod rows;
 mod stacks;
 
-pub use queries::{kind_name, query_of};
+pub use queries::{
+    KINDS, add_answer, counts_names, is_total, kind_name, query_of, top_answer, total_answer,
+};
 pub use rows::{
     add_folded, add_total, add_values, batch_of, names_of, numbers_of, push_row, stack_of,
     values_of, width_of,

@@ -1,4 +1,4 @@
-//! Gates, which hold workers around their steps.
+//! A gate that counts the calls of workers, and holds some of them.
 
 use profile_store::Gate;
 use row_scripts::Made;
@@ -17,32 +17,82 @@ pub(crate) fn come(there: &AtomicU64, count: u64) -> bool {
     false
 }
 
-/// How often each worker called. A call is wrong where it isn't the worker's next: before its first step, after it,
-/// before its second step, and so on.
+/// Adds one to a count.
+pub(crate) fn add_one(count: &AtomicU64) {
+    let _ = count.fetch_add(1, Ordering::SeqCst);
+}
+
+/// Counts the calls of workers. Each calls before its first step, after it, before its second step, and so on. A call
+/// is wrong where it isn't the worker's next, or is held in vain.
 #[derive(Drop)]
 pub(crate) struct Counting {
+    /// Which calls are held, each as three numbers: a worker, its call, and how many calls there have to be.
+    held: Vec<u64>,
+    /// How often each worker called.
     calls: Mutex<Vec<u64>>,
+    /// How many calls there are, of all workers and of who lets them go.
+    there: AtomicU64,
+    /// How many calls went on.
+    gone: AtomicU64,
     wrong: AtomicU64,
 }
 
 impl Counting {
     /// No worker called yet.
-    pub(crate) fn new(calls: Vec<u64>) -> Counting {
+    pub(crate) fn new(held: Vec<u64>, calls: Vec<u64>) -> Counting {
         Counting {
+            held,
             calls: Mutex::new(calls),
+            there: AtomicU64::new(0),
+            gone: AtomicU64::new(0),
             wrong: AtomicU64::new(0),
         }
     }
 
     /// A worker calls, and it should have called so often before.
-    fn count<R: Wait>(&self, rt: &R, worker: usize, before: u64) {
+    fn call<R: Wait>(&self, rt: &R, worker: usize, before: u64) {
+        add_one(&self.there);
+        let is_next = self.count(rt, worker, before);
+        if !come(&self.there, self.until(worker as u64, before)) || !is_next {
+            add_one(&self.wrong);
+        }
+        add_one(&self.gone);
+    }
+
+    /// Counts a worker's call. It gives whether it is the next.
+    fn count<R: Wait>(&self, rt: &R, worker: usize, before: u64) -> bool {
         let mut calls = self.calls.lock(rt);
         match calls.get_mut(worker) {
-            Some(calls) if *calls == before => *calls = before.wrapping_add(1),
-            _ => {
-                let _ = self.wrong.fetch_add(1, Ordering::SeqCst);
+            Some(calls) if *calls == before => {
+                *calls = before.wrapping_add(1);
+                true
+            }
+            _ => false,
+        }
+    }
+
+    /// How many calls there have to be before this one goes on.
+    fn until(&self, worker: u64, call: u64) -> u64 {
+        let mut until = 0;
+        for held in self.held.as_slice().chunks(3) {
+            if held.starts_with(&[worker, call]) {
+                until = held.last().copied().unwrap_or(0);
             }
         }
+        until
+    }
+
+    /// Waits for a first call, and adds whether it came.
+    pub(crate) fn wait(&self, made: &mut Made) {
+        let is_there = come(&self.there, 1);
+        made.say(&if is_there { "held" } else { "nobody came" });
+    }
+
+    /// Adds how many calls went on so far, and calls.
+    pub(crate) fn let_go(&self, made: &mut Made) {
+        let gone = self.gone.load(Ordering::SeqCst);
+        add_one(&self.there);
+        made.say(&format_args!("{gone} went on"));
     }
 
     /// Adds how often each worker called.
@@ -55,132 +105,10 @@ impl Counting {
 
 impl Gate for Counting {
     fn before<R: Wait>(&self, rt: &R, worker: usize, step: usize) {
-        self.count(rt, worker, (step as u64).wrapping_mul(2));
+        self.call(rt, worker, (step as u64).wrapping_mul(2));
     }
 
     fn after<R: Wait>(&self, rt: &R, worker: usize, step: usize) {
-        self.count(rt, worker, (step as u64).wrapping_mul(2).wrapping_add(1));
+        self.call(rt, worker, (step as u64).wrapping_mul(2).wrapping_add(1));
     }
-}
-
-/// Holds two workers in their first step until both are there, and counts those that waited in vain.
-#[derive(Drop)]
-pub(crate) struct Meeting {
-    there: AtomicU64,
-    alone: AtomicU64,
-}
-
-impl Meeting {
-    /// No worker is there yet.
-    pub(crate) fn new() -> Meeting {
-        Meeting {
-            there: AtomicU64::new(0),
-            alone: AtomicU64::new(0),
-        }
-    }
-
-    /// Adds how many workers came, and how many waited in vain.
-    pub(crate) fn tell(&self, made: &mut Made) {
-        let there = self.there.load(Ordering::SeqCst);
-        let alone = self.alone.load(Ordering::SeqCst);
-        made.say(&format_args!("{there} came, {alone} alone"));
-    }
-}
-
-impl Gate for Meeting {
-    fn before<R: Wait>(&self, _rt: &R, _worker: usize, step: usize) {
-        if step == 0 {
-            let _ = self.there.fetch_add(1, Ordering::SeqCst);
-            if !come(&self.there, 2) {
-                let _ = self.alone.fetch_add(1, Ordering::SeqCst);
-            }
-        }
-    }
-
-    fn after<R: Wait>(&self, _rt: &R, _worker: usize, _step: usize) {}
-}
-
-/// Lets the second worker take its first step, then the first worker, and then the second worker again, while the first
-/// is held after its step.
-#[derive(Drop)]
-pub(crate) struct Holding {
-    /// Which step the second worker is about to take.
-    second: AtomicU64,
-    /// How many steps the first worker took.
-    first: AtomicU64,
-}
-
-impl Holding {
-    /// No worker took a step yet.
-    pub(crate) fn new() -> Holding {
-        Holding {
-            second: AtomicU64::new(0),
-            first: AtomicU64::new(0),
-        }
-    }
-}
-
-impl Gate for Holding {
-    fn before<R: Wait>(&self, _rt: &R, worker: usize, step: usize) {
-        if worker == 0 {
-            let _ = come(&self.second, 1);
-        } else {
-            self.second.store(step as u64, Ordering::SeqCst);
-            let _ = step == 0 || come(&self.first, 1);
-        }
-    }
-
-    fn after<R: Wait>(&self, _rt: &R, worker: usize, _step: usize) {
-        if worker == 0 {
-            self.first.store(1, Ordering::SeqCst);
-            let _ = come(&self.second, 2);
-        }
-    }
-}
-
-/// Holds workers before their steps until they may go on.
-#[derive(Drop)]
-pub(crate) struct Held {
-    /// How often the first worker has come to its first step.
-    there: AtomicU64,
-    /// 1 once they may go on.
-    open: AtomicU64,
-    /// How many went on.
-    gone: AtomicU64,
-}
-
-impl Held {
-    /// No worker came yet.
-    pub(crate) fn new() -> Held {
-        Held {
-            there: AtomicU64::new(0),
-            open: AtomicU64::new(0),
-            gone: AtomicU64::new(0),
-        }
-    }
-
-    /// Waits for the first worker, and adds whether it came.
-    pub(crate) fn wait(&self, made: &mut Made) {
-        let is_there = come(&self.there, 1);
-        made.say(&if is_there { "held" } else { "nobody came" });
-    }
-
-    /// Adds how many went on so far, and lets all go on.
-    pub(crate) fn let_go(&self, made: &mut Made) {
-        let gone = self.gone.load(Ordering::SeqCst);
-        self.open.store(1, Ordering::SeqCst);
-        made.say(&format_args!("{gone} went on"));
-    }
-}
-
-impl Gate for Held {
-    fn before<R: Wait>(&self, _rt: &R, worker: usize, step: usize) {
-        if worker == 0 && step == 0 {
-            let _ = self.there.fetch_add(1, Ordering::SeqCst);
-        }
-        let _ = come(&self.open, 1);
-        let _ = self.gone.fetch_add(1, Ordering::SeqCst);
-    }
-
-    fn after<R: Wait>(&self, _rt: &R, _worker: usize, _step: usize) {}
 }

@@ -1,28 +1,34 @@
-//! A store on one thread: `store limit 10 sessions 2 width 1`, and a step for each operation of a session.
+//! A store: `store limit 10 sessions 2 width 1`, and a step for each operation of a session, or for threads.
 
 ghost use Rattle.std.specs.Prelude.{◌≡◌};
 
-use book_steps::{batch_of, op_of, query_of, run_closed, tell_answer};
-use profile_store::{
-    Batch, Blank, Hashing, MakeFault, Op, Placed, Query, Reply, Session, SessionLog, Store,
-    StoreName, Told, Window,
-};
+use crate::sessions::{Deed, hold, take, tell_number};
+use crate::{walks, windows, workers};
+use book_steps::run_closed;
+use profile_store::{Blank, Hashing, MakeFault, Session, SessionLog, Store, StoreName, Told};
 use row_scripts::{Checker, Made, Script, Step, Words, Wrong, next_step};
-use spelled_rows::{add_stacks, width_of};
-use std::alloc::Global;
+use spelled_rows::width_of;
 use std::marker::Brand;
-use std::sync::{Arc, Wait};
+use std::sync::Wait;
+use std::thread::Threads;
 
-/// A store, its sessions, and what they told of changes.
+/// A store, its sessions, what they told of changes, and the logs of workers.
 #[derive(Drop)]
-pub(crate) struct Room<'a, N: StoreName> {
-    store: &'a Store<N>,
+pub(crate) struct Room<'a, N: StoreName, R> {
+    pub(crate) rt: &'a R,
+    pub(crate) store: &'a Store<N>,
     pub(crate) sessions: Vec<Session<'a, N>>,
     told: Vec<Told<N>>,
+    pub(crate) logs: Vec<SessionLog>,
 }
 
 /// Opens a store, and runs the steps of its sessions.
-pub fn run_scene<R: Wait>(rt: &R, checker: &mut Checker, script: &mut Script, step: &Step) {
+pub fn run_scene<R: Threads + Wait + Sync>(
+    rt: &R,
+    checker: &mut Checker,
+    script: &mut Script,
+    step: &Step,
+) {
     match blank_of(step.words, &mut checker.made) {
         Ok(blank) => run_store::<Brand, R>(rt, checker, script, step, blank),
         Err(fault) => {
@@ -33,7 +39,7 @@ pub fn run_scene<R: Wait>(rt: &R, checker: &mut Checker, script: &mut Script, st
 }
 
 /// An empty store. With `hashing 7` it hashes names from that start.
-pub(crate) fn blank_of(words: Words, made: &mut Made) -> Result<Blank, MakeFault> {
+fn blank_of(words: Words, made: &mut Made) -> Result<Blank, MakeFault> {
     let limit = made.number_after(words, "limit", 10);
     let sessions = made.number_after(words, "sessions", 1);
     let width = width_of(words, made);
@@ -44,7 +50,7 @@ pub(crate) fn blank_of(words: Words, made: &mut Made) -> Result<Blank, MakeFault
     Blank::make_with(made.alloc(), hashing, limit, sessions, width)
 }
 
-fn run_store<N: StoreName, R: Wait>(
+fn run_store<N: StoreName, R: Threads + Wait + Sync>(
     rt: &R,
     checker: &mut Checker,
     script: &mut Script,
@@ -60,26 +66,34 @@ fn run_store<N: StoreName, R: Wait>(
 }
 
 /// Opens the sessions, and gives their logs.
-fn run_sessions<N: StoreName, R: Wait>(
+fn run_sessions<N: StoreName, R: Threads + Wait + Sync>(
     rt: &R,
     checker: &mut Checker,
     script: &mut Script,
     step: &Step,
     store: &Store<N>,
 ) -> Vec<SessionLog> {
-    let mut room = Room::open(rt, store, step.words, &mut checker.made);
+    let mut room = Room {
+        rt,
+        store,
+        sessions: open_sessions(rt, store, step.words, &mut checker.made),
+        told: Vec::new(checker.alloc),
+        logs: Vec::new(checker.alloc),
+    };
     checker.settle(step);
-    room.run_steps(rt, checker, script);
-    logs_of(room.sessions, &mut checker.made)
+    run_steps(&mut room, checker, script);
+    logs_of(room, &mut checker.made)
 }
 
-/// So many sessions of a store.
-pub(crate) fn open_sessions<'a, N: StoreName, R: Wait>(
+/// The sessions of a store, fewer than there are with `open 1`.
+fn open_sessions<'a, N: StoreName, R: Wait>(
     rt: &R,
     store: &'a Store<N>,
-    count: u64,
+    words: Words,
     made: &mut Made,
 ) -> Vec<Session<'a, N>> {
+    let count: u64 = made.number_after(words, "sessions", 1);
+    let count = made.number_after(words, "open", count);
     let mut sessions = Vec::new(made.alloc());
     for _ in 0..count {
         if let Some(session) = made.done(store.session(rt, made.alloc())) {
@@ -89,279 +103,108 @@ pub(crate) fn open_sessions<'a, N: StoreName, R: Wait>(
     sessions
 }
 
-/// The logs of sessions, which end.
-pub(crate) fn logs_of<N: StoreName>(
-    sessions: Vec<Session<'_, N>>,
-    made: &mut Made,
-) -> Vec<SessionLog> {
-    let mut logs = Vec::new(made.alloc());
+/// The logs of workers, and those of sessions, which end.
+fn logs_of<N: StoreName, R>(room: Room<N, R>, made: &mut Made) -> Vec<SessionLog> {
+    let Room {
+        sessions,
+        mut logs,
+        ..
+    } = room;
     for session in sessions {
         made.keep(&mut logs, session.close());
     }
     logs
 }
 
-/// What a session is to do, and the input for it.
-#[derive(Clone, Copy)]
-struct Deed<'a> {
-    words: Words<'a>,
-    input: &'a [u8],
+fn run_steps<N: StoreName, R: Threads + Wait + Sync>(
+    room: &mut Room<'_, N, R>,
+    checker: &mut Checker,
+    script: &mut Script,
+) {
+    for _ in 0..script.most_steps() {
+        let Some(step) = next_step(checker, script) else {
+            return;
+        };
+        run_step(room, step.words, checker.input.bytes(), &mut checker.made);
+        checker.settle(&step);
+    }
 }
 
-impl<'a, N: StoreName> Room<'a, N> {
-    /// Opens the sessions of a store, fewer than there are with `open 1`.
-    pub(crate) fn open<R: Wait>(
-        rt: &R,
-        store: &'a Store<N>,
-        words: Words,
-        made: &mut Made,
-    ) -> Room<'a, N> {
-        let sessions = made.number_after(words, "sessions", 1);
-        let count = made.number_after(words, "open", sessions);
-        Room {
-            store,
-            sessions: open_sessions(rt, store, count, made),
-            told: Vec::new(made.alloc()),
+fn run_step<N: StoreName, R: Threads + Wait + Sync>(
+    room: &mut Room<'_, N, R>,
+    words: Words,
+    input: &[u8],
+    made: &mut Made,
+) {
+    let deed = Deed {
+        words: words.rest(1),
+        input,
+    };
+    match words.word(0) {
+        "workers" => workers::run_lists(room, deed, made),
+        "held" => workers::run_held(room, deed, made),
+        "ungated" => workers::run_ungated(room, deed, made),
+        "windows" => windows::run(room, deed, made),
+        "threads" => walks::run(room, deed, made),
+        who => room.take(who, deed, made),
+    }
+}
+
+impl<N: StoreName, R: Wait> Room<'_, N, R> {
+    /// `0 add a 1`: an operation of session 0. With `each` all sessions take it in turn, and with `once` the next
+    /// session of the store, which then ends.
+    fn take(&mut self, who: &str, deed: Deed, made: &mut Made) {
+        match who {
+            "each" => self.take_each(deed, made),
+            "once" => self.take_once(deed, made),
+            "hold" => self.hold(deed, made),
+            number => self.take_one(made.number(number), deed, made),
         }
     }
 
     /// Takes the steps that the lines of a text spell, none of which has an input.
-    pub(crate) fn run_lines<R: Wait>(&mut self, rt: &R, text: &str, made: &mut Made) {
+    pub(crate) fn take_lines(&mut self, text: &str, made: &mut Made) {
         for text in text.lines() {
             let words = Words { text };
             let deed = Deed {
                 words: words.rest(1),
                 input: b"",
             };
-            self.run(rt, words.word(0), deed, made);
+            self.take(words.word(0), deed, made);
         }
     }
 
-    fn run_steps<R: Wait>(&mut self, rt: &R, checker: &mut Checker, script: &mut Script) {
-        for _ in 0..script.most_steps() {
-            let Some(step) = next_step(checker, script) else {
-                return;
-            };
-            let deed = Deed {
-                words: step.words.rest(1),
-                input: checker.input.bytes(),
-            };
-            self.run(rt, step.words.word(0), deed, &mut checker.made);
-            checker.settle(&step);
+    fn take_each(&mut self, deed: Deed, made: &mut Made) {
+        for place in 0..self.sessions.len() {
+            self.take_one(place, deed, made);
         }
     }
 
-    /// `0 add a 1`: an operation of session 0. With `each` all sessions take it in turn, and with `once` the next
-    /// session of the store, which then ends.
-    fn run<R: Wait>(&mut self, rt: &R, who: &str, deed: Deed, made: &mut Made) {
-        match who {
-            "each" => self.take_each(rt, deed, made),
-            "once" => self.take_once(rt, deed, made),
-            "hold" => self.hold(rt, deed, made),
-            number => self.take_one(rt, made.number(number), deed, made),
-        }
-    }
-
-    fn take_each<R: Wait>(&mut self, rt: &R, deed: Deed, made: &mut Made) {
-        for session in self.sessions.iter_mut() {
-            take(rt, session, &mut self.told, deed, made);
-        }
-    }
-
-    fn take_one<R: Wait>(&mut self, rt: &R, number: usize, deed: Deed, made: &mut Made) {
-        match self.sessions.get_mut(number) {
-            Some(session) => take(rt, session, &mut self.told, deed, made),
+    fn take_one(&mut self, place: usize, deed: Deed, made: &mut Made) {
+        match self.sessions.get_mut(place) {
+            Some(session) => take(self.rt, session, &mut self.told, deed, made),
             None => made.fail(Wrong::Missing),
         }
     }
 
-    fn take_once<R: Wait>(&mut self, rt: &R, deed: Deed, made: &mut Made) {
-        match self.store.session(rt, made.alloc()) {
+    fn take_once(&mut self, deed: Deed, made: &mut Made) {
+        match self.store.session(self.rt, made.alloc()) {
             Ok(mut session) => {
                 tell_number(&session, made);
-                take(rt, &mut session, &mut self.told, deed, made);
+                take(self.rt, &mut session, &mut self.told, deed, made);
             }
             Err(fault) => made.refuse(&fault),
         }
     }
 
     /// `hold 300 ask folded`: the first session's answer, while the second adds the rows of the input so often.
-    fn hold<R: Wait>(&mut self, rt: &R, deed: Deed, made: &mut Made) {
-        let Some(query) = query_of(deed.words.rest(1), made) else {
-            return;
-        };
+    fn hold(&mut self, deed: Deed, made: &mut Made) {
         let Some((first, others)) = self.sessions.split_first_mut() else {
             return made.fail(Wrong::Missing);
         };
         match others.first_mut() {
-            Some(second) => hold(rt, first, second, &query, deed, made),
+            Some(second) => hold(self.rt, first, second, deed, made),
             None => made.fail(Wrong::Missing),
         }
-    }
-}
-
-fn hold<N: StoreName, R: Wait>(
-    rt: &R,
-    first: &mut Session<'_, N>,
-    second: &mut Session<'_, N>,
-    query: &Arc<Query>,
-    deed: Deed,
-    made: &mut Made,
-) {
-    let times = made.number(deed.words.word(0));
-    match first.ask(made.alloc(), query) {
-        Ok(answer) => {
-            let receipts = add_rows(rt, second, deed, times, made);
-            tell_answer(answer, made);
-            made.say(&format_args!("{receipts} receipts"));
-        }
-        Err(fault) => made.refuse(&fault),
-    }
-}
-
-/// What a session does: `number`, `hear 1`, `receipt 1`, `times 50 add a 1`, `take`, or an operation.
-fn take<N: StoreName, R: Wait>(
-    rt: &R,
-    session: &mut Session<'_, N>,
-    told: &mut Vec<Told<N>>,
-    deed: Deed,
-    made: &mut Made,
-) {
-    match deed.words.word(0) {
-        "number" => tell_number(session, made),
-        "hear" => hear(session, told, deed.words, made),
-        "receipt" => tell_receipt(session, deed.words, made),
-        "times" => add_times(rt, session, deed, made),
-        "take" => take_window(rt, session, told, made),
-        _ => operate(rt, session, told, op_of(deed.words, deed.input, made), made),
-    }
-}
-
-fn tell_number<N: StoreName>(session: &Session<'_, N>, made: &mut Made) {
-    made.say(&format_args!("session {}", session.number()));
-}
-
-fn hear<N: StoreName>(
-    session: &mut Session<'_, N>,
-    told: &[Told<N>],
-    words: Words,
-    made: &mut Made,
-) {
-    match told.get(made.number::<usize>(words.word(1))) {
-        Some(told) => {
-            session.hear(told);
-            made.say(&"heard");
-        }
-        None => made.fail(Wrong::Missing),
-    }
-}
-
-fn operate<N: StoreName, R: Wait>(
-    rt: &R,
-    session: &mut Session<'_, N>,
-    told: &mut Vec<Told<N>>,
-    op: Option<Op>,
-    made: &mut Made,
-) {
-    match op {
-        Some(Op::Add(batch)) => match session.add(rt, made.alloc(), batch) {
-            Ok(placed) => keep(placed, told, made),
-            Err(refused) => made.refuse(&refused.fault),
-        },
-        Some(Op::Reset) => match session.reset(rt, made.alloc()) {
-            Ok(placed) => keep(placed, told, made),
-            Err(fault) => made.refuse(&fault),
-        },
-        Some(Op::Ask(query)) => ask(session, &query, made),
-        None => made.fail(Wrong::Command),
-    }
-}
-
-/// Adds the place of a reset, and the rows that counted there.
-fn take_window<N: StoreName, R: Wait>(
-    rt: &R,
-    session: &mut Session<'_, N>,
-    told: &mut Vec<Told<N>>,
-    made: &mut Made,
-) {
-    match session.take(rt, made.alloc()) {
-        Ok(Window { placed, tree }) => {
-            keep(placed, told, made);
-            add_stacks(&tree, 0, made);
-        }
-        Err(fault) => made.refuse(&fault),
-    }
-}
-
-/// Adds the place of a change. What it tells is kept.
-fn keep<N: StoreName>(placed: Placed<N>, told: &mut Vec<Told<N>>, made: &mut Made) {
-    made.say(&format_args!("place {}", placed.place));
-    made.keep(told, placed.told);
-}
-
-/// Adds what a receipt tells of a report.
-fn tell_receipt<N: StoreName>(session: &Session<'_, N>, words: Words, made: &mut Made) {
-    let place: usize = made.number(words.word(1));
-    let Some(receipt) = session.log().get(place) else {
-        return made.fail(Wrong::Missing);
-    };
-    if let Reply::Answered(answer) = &receipt.reply {
-        tell_answer(answer, made);
-    }
-    made.say(&format_args!("at {}", receipt.at));
-}
-
-fn add_times<N: StoreName, R: Wait>(
-    rt: &R,
-    session: &mut Session<'_, N>,
-    deed: Deed,
-    made: &mut Made,
-) {
-    let times = made.number(deed.words.word(1));
-    let receipts = add_rows(rt, session, deed, times, made);
-    made.say(&format_args!("{receipts} receipts"));
-}
-
-/// A session adds the rows of a deed so often. It gives how many receipts it then has.
-fn add_rows<N: StoreName, R: Wait>(
-    rt: &R,
-    session: &mut Session<'_, N>,
-    deed: Deed,
-    times: u64,
-    made: &mut Made,
-) -> usize {
-    if let Some(batch) = batch_of(deed.words.rest(3), deed.input, made) {
-        add_often(rt, made.alloc(), session, &batch, times);
-    }
-    session.log().len()
-}
-
-/// A session adds a batch so often, as long as it isn't refused.
-pub(crate) fn add_often<N: StoreName, R: Wait>(
-    rt: &R,
-    alloc: Global,
-    session: &mut Session<'_, N>,
-    batch: &Arc<Batch>,
-    times: u64,
-) {
-    for _ in 0..times {
-        let Ok(shared) = Arc::try_clone(batch) else {
-            return;
-        };
-        if session.add(rt, alloc, shared).is_err() {
-            return;
-        }
-    }
-}
-
-/// Adds an answer, and after how many changes it is.
-fn ask<N: StoreName>(session: &mut Session<'_, N>, query: &Arc<Query>, made: &mut Made) {
-    match session.ask(made.alloc(), query) {
-        Ok(answer) => tell_answer(answer, made),
-        Err(fault) => return made.refuse(&fault),
-    }
-    match session.log().last() {
-        Some(receipt) => made.say(&format_args!("at {}", receipt.at)),
-        None => made.fail(Wrong::Missing),
     }
 }

@@ -1,24 +1,112 @@
-//! What a session does in a thread of its own, beside others: it makes changes, asks, and hears of other changes.
+//! What sessions do in threads of their own, beside others: `threads 40`. They make changes, ask, and hear of other
+//! changes.
 
-use crate::gates::come;
-use profile_store::{Batch, Placed, Query, Session, SessionLog, StoreName};
+use crate::gates::{add_one, come};
+use crate::sessions::{Deed, run_op};
+use crate::stores::Room;
+use book_steps::{batch_of, query_of};
+use profile_store::{Batch, Op, Placed, Query, Session, SessionLog, StoreName};
+use row_scripts::{Made, Words};
 use std::alloc::Global;
 use std::sync::atomic::{AtomicU64, Ordering};
 use std::sync::{Arc, Mutex, Wait};
+use std::thread::Threads;
+use std::{mem, thread};
 
 /// The first so many sessions tell others of their changes, and hear of theirs.
 const TELLING: u32 = 4;
 
+/// Runs a thread for each session, in which it takes so many steps. It adds the first row of the input, the first two
+/// and so on, and asks what the lines with `ask` spell. It tells how often sessions were told what is wrong, and how
+/// often they heard.
+pub(crate) fn run<N: StoreName, R: Threads + Wait + Sync>(
+    room: &mut Room<'_, N, R>,
+    deed: Deed,
+    made: &mut Made,
+) {
+    let work = work_of(made.text_of(deed.input), made);
+    let steps = made.number(deed.words.word(0));
+    let sessions = mem::replace(&mut room.sessions, Vec::new(made.alloc()));
+    let bench = Bench::new(made.alloc(), &work, sessions.len() as u64, steps);
+    start_all(room.rt, sessions, &bench, made);
+    bench.tell(made);
+    keep_all(bench.end(), &mut room.logs, made);
+}
+
+/// A thread for each session.
+fn start_all<N: StoreName, R: Threads + Wait + Sync>(
+    rt: &R,
+    sessions: Vec<Session<'_, N>>,
+    bench: &Bench<N>,
+    made: &Made,
+) {
+    let alloc = made.alloc();
+    thread::scope(thread::scope_env(), rt, |scope| {
+        for session in sessions {
+            let _ = scope.spawn(move || bench.walk(rt, alloc, session));
+        }
+    });
+}
+
+fn keep_all(all: Vec<SessionLog>, logs: &mut Vec<SessionLog>, made: &mut Made) {
+    for log in all {
+        made.keep(logs, log);
+    }
+}
+
 /// What sessions add and ask.
 #[derive(Drop)]
-pub(crate) struct Work {
-    pub(crate) batches: Vec<Arc<Batch>>,
-    pub(crate) queries: Vec<Arc<Query>>,
+struct Work {
+    batches: Vec<Arc<Batch>>,
+    queries: Vec<Arc<Query>>,
+}
+
+fn work_of(text: &str, made: &mut Made) -> Work {
+    let mut rows = Made::new(made.alloc());
+    let mut work = Work {
+        batches: Vec::new(made.alloc()),
+        queries: Vec::new(made.alloc()),
+    };
+    for line in text.lines() {
+        work.add_line(line, &mut rows, made);
+    }
+    made.fail_as(&rows);
+    work
+}
+
+impl Work {
+    fn add_line(&mut self, text: &str, rows: &mut Made, made: &mut Made) {
+        if text.starts_with("ask") {
+            if let Some(query) = query_of(Words { text }, made) {
+                made.keep(&mut self.queries, query);
+            }
+            return;
+        }
+        rows.say(&text);
+        if let Some(batch) = batch_of(Words { text: "" }, rows.bytes(), made) {
+            made.keep(&mut self.batches, batch);
+        }
+    }
+
+    /// Of each four sessions one adds, one resets now and then, one asks, and one adds and asks.
+    fn op_of(&self, session: u32, step: usize) -> Option<Op> {
+        match (session % 4, step % 8) {
+            (1, 7) => Some(Op::Reset),
+            (2, _) | (3, 1 | 3 | 5 | 7) => {
+                let query = Arc::try_clone(self.queries.get(step % 10)?);
+                Some(Op::Ask(query.ok()?))
+            }
+            _ => {
+                let batch = Arc::try_clone(self.batches.get(step % 5)?);
+                Some(Op::Add(batch.ok()?))
+            }
+        }
+    }
 }
 
 /// What sessions in threads have in common.
 #[derive(Drop)]
-pub(crate) struct Bench<'a, N: StoreName> {
+struct Bench<'a, N: StoreName> {
     work: &'a Work,
     /// How many sessions there are.
     sessions: u64,
@@ -28,158 +116,17 @@ pub(crate) struct Bench<'a, N: StoreName> {
     begun: AtomicU64,
     /// What one of them was last told of a change.
     last: Mutex<Option<Placed<N>>>,
-    /// The sessions that took all their steps.
-    done: Mutex<Vec<Walked>>,
-}
-
-/// A session, and what it may be told next.
-#[derive(Drop)]
-struct Walk<'a, N: StoreName> {
-    session: Session<'a, N>,
-    /// How many changes it knows of, by what it was told and heard.
-    known: u64,
-    /// How often it heard of a change.
-    heard: u64,
-    /// How often it was refused, or told less than it knew.
-    wrong: u64,
-}
-
-/// What a session was told in its thread.
-#[derive(Drop)]
-pub(crate) struct Walked {
-    pub(crate) log: SessionLog,
-    pub(crate) heard: u64,
-    pub(crate) wrong: u64,
-}
-
-/// What a session does in a step.
-enum Deed {
-    Add,
-    Reset,
-    Ask,
-}
-
-/// Of each four sessions one adds, one resets now and then, one asks, and one adds and asks.
-fn deed_of(session: u32, step: usize) -> Deed {
-    match session % 4 {
-        0 => Deed::Add,
-        1 if step % 8 == 7 => Deed::Reset,
-        1 => Deed::Add,
-        2 => Deed::Ask,
-        _ if step % 2 == 0 => Deed::Add,
-        _ => Deed::Ask,
-    }
-}
-
-impl<'a, N: StoreName> Walk<'a, N> {
-    fn new(session: Session<'a, N>) -> Walk<'a, N> {
-        Walk {
-            session,
-            known: 0,
-            heard: 0,
-            wrong: 0,
-        }
-    }
-
-    /// Whether the session tells others, and hears of them.
-    fn is_telling(&self) -> bool {
-        self.session.number() < TELLING
-    }
-
-    fn count(&mut self, is_right: bool) {
-        if !is_right {
-            self.wrong = self.wrong.saturating_add(1);
-        }
-    }
-
-    /// Hears of what one of the sessions was last told.
-    fn hear<R: Wait>(&mut self, rt: &R, bench: &Bench<N>) {
-        if !self.is_telling() {
-            return;
-        }
-        let last = bench.last.lock(rt);
-        if let Some(placed) = &*last {
-            self.session.hear(&placed.told);
-            self.known = self.known.max(placed.place.saturating_add(1));
-            self.heard = self.heard.saturating_add(1);
-        }
-    }
-
-    /// Whether a change is placed after all that was known. Others may be told of it.
-    fn keep<R: Wait>(&mut self, rt: &R, bench: &Bench<N>, placed: Placed<N>) -> bool {
-        let is_right = self.known <= placed.place;
-        self.known = placed.place.saturating_add(1);
-        if self.is_telling() {
-            *bench.last.lock(rt) = Some(placed);
-        }
-        is_right
-    }
-
-    /// Whether an addition is placed so.
-    fn add<R: Wait>(&mut self, rt: &R, alloc: Global, bench: &Bench<N>, step: usize) -> bool {
-        let Some(batch) = bench.work.batches.get(step % 5) else {
-            return false;
-        };
-        let Ok(batch) = Arc::try_clone(batch) else {
-            return false;
-        };
-        match self.session.add(rt, alloc, batch) {
-            Ok(placed) => self.keep(rt, bench, placed),
-            Err(_) => false,
-        }
-    }
-
-    /// Whether a reset is placed so.
-    fn reset<R: Wait>(&mut self, rt: &R, alloc: Global, bench: &Bench<N>) -> bool {
-        match self.session.reset(rt, alloc) {
-            Ok(placed) => self.keep(rt, bench, placed),
-            Err(_) => false,
-        }
-    }
-
-    /// Whether a report is after all that was known.
-    fn ask(&mut self, alloc: Global, bench: &Bench<N>, step: usize) -> bool {
-        let Some(query) = bench.work.queries.get(step % 10) else {
-            return false;
-        };
-        if self.session.ask(alloc, query).is_err() {
-            return false;
-        }
-        let Some(receipt) = self.session.log().last() else {
-            return false;
-        };
-        let is_right = self.known <= receipt.at;
-        self.known = receipt.at;
-        is_right
-    }
-
-    fn step<R: Wait>(&mut self, rt: &R, alloc: Global, bench: &Bench<N>, step: usize) {
-        let is_right = match deed_of(self.session.number(), step) {
-            Deed::Add => self.add(rt, alloc, bench, step),
-            Deed::Reset => self.reset(rt, alloc, bench),
-            Deed::Ask => self.ask(alloc, bench, step),
-        };
-        self.count(is_right);
-    }
-
-    fn end(self) -> Walked {
-        let Walk {
-            session,
-            known: _,
-            heard,
-            wrong,
-        } = self;
-        Walked {
-            log: session.close(),
-            heard,
-            wrong,
-        }
-    }
+    /// The logs of the sessions that took all their steps.
+    done: Mutex<Vec<SessionLog>>,
+    /// How often sessions heard of a change.
+    heard: AtomicU64,
+    /// How often they were refused, or told less than they knew.
+    wrong: AtomicU64,
 }
 
 impl<'a, N: StoreName> Bench<'a, N> {
     /// Nobody took a step yet.
-    pub(crate) fn new(alloc: Global, work: &'a Work, sessions: u64, steps: usize) -> Bench<'a, N> {
+    fn new(alloc: Global, work: &'a Work, sessions: u64, steps: usize) -> Bench<'a, N> {
         Bench {
             work,
             sessions,
@@ -187,31 +134,92 @@ impl<'a, N: StoreName> Bench<'a, N> {
             begun: AtomicU64::new(0),
             last: Mutex::new(None),
             done: Mutex::new(Vec::new(alloc)),
+            heard: AtomicU64::new(0),
+            wrong: AtomicU64::new(0),
         }
     }
 
-    /// Whether all sessions take their first step within some turns.
-    fn all_begin(&self) -> bool {
-        let _ = self.begun.fetch_add(1, Ordering::SeqCst);
-        come(&self.begun, self.sessions)
+    fn expect(&self, is_right: bool) {
+        if !is_right {
+            add_one(&self.wrong);
+        }
     }
 
-    /// Takes a session's steps. After its first, it waits for the first of all others. Where there is no memory for
-    /// what it was told, its log is missing in the audit.
-    pub(crate) fn walk<R: Wait>(&self, rt: &R, alloc: Global, session: Session<'_, N>) {
-        let mut walk = Walk::new(session);
-        walk.step(rt, alloc, self, 0);
-        walk.count(self.all_begin());
+    /// Takes a session's steps. Where there is no memory for its log, that is missing in the audit.
+    fn walk<R: Wait>(&self, rt: &R, alloc: Global, session: Session<'_, N>) {
+        let mut session = session;
+        self.step_all(rt, alloc, &mut session);
+        let _ = self.done.lock(rt).push(session.close());
+    }
+
+    /// After its first step, a session waits for the first of all others.
+    fn step_all<R: Wait>(&self, rt: &R, alloc: Global, session: &mut Session<'_, N>) {
+        let mut known = self.step(rt, alloc, session, 0, 0);
+        add_one(&self.begun);
+        self.expect(come(&self.begun, self.sessions));
         for step in 1..self.steps {
-            walk.hear(rt, self);
-            walk.step(rt, alloc, self, step);
+            known = self.hear(rt, session, known);
+            known = self.step(rt, alloc, session, step, known);
         }
-        let walked = walk.end();
-        let _ = self.done.lock(rt).push(walked);
     }
 
-    /// What each session was told.
-    pub(crate) fn end(self) -> Vec<Walked> {
+    /// A session hears of what one of them was last told. It gives how many changes it knows of.
+    fn hear<R: Wait>(&self, rt: &R, session: &mut Session<'_, N>, known: u64) -> u64 {
+        if session.number() >= TELLING {
+            return known;
+        }
+        let last = self.last.lock(rt);
+        match &*last {
+            Some(placed) => {
+                session.hear(&placed.told);
+                add_one(&self.heard);
+                known.max(placed.place.saturating_add(1))
+            }
+            None => known,
+        }
+    }
+
+    /// A session takes a step, and is told no less than it knew. It gives how many changes it knows of.
+    fn step<R: Wait>(
+        &self,
+        rt: &R,
+        alloc: Global,
+        session: &mut Session<'_, N>,
+        step: usize,
+        known: u64,
+    ) -> u64 {
+        let placed = match self.work.op_of(session.number(), step) {
+            Some(op) => run_op(rt, alloc, session, op),
+            None => Ok(None),
+        };
+        self.expect(placed.is_ok());
+        let at = session.log().last().map_or(0, |receipt| receipt.at);
+        self.expect(known <= at);
+        match placed {
+            Ok(Some(placed)) => {
+                self.keep(rt, session.number(), placed);
+                at.saturating_add(1)
+            }
+            _ => at,
+        }
+    }
+
+    /// Others may be told of a change.
+    fn keep<R: Wait>(&self, rt: &R, session: u32, placed: Placed<N>) {
+        if session < TELLING {
+            *self.last.lock(rt) = Some(placed);
+        }
+    }
+
+    /// The logs of the sessions.
+    fn end(self) -> Vec<SessionLog> {
         self.done.into_inner()
+    }
+
+    /// Adds how often sessions were told what is wrong, and how often they heard.
+    fn tell(&self, made: &mut Made) {
+        let wrong = self.wrong.load(Ordering::SeqCst);
+        let heard = self.heard.load(Ordering::SeqCst);
+        made.say(&format_args!("{wrong} wrong, {heard} heard"));
     }
 }

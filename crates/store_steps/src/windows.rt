@@ -1,129 +1,89 @@
-//! Windows that one thread takes of a store while another adds: `windows limit 200 sessions 2 times 100`.
+//! Windows that one session takes in a thread while another adds: `windows 100 main;a 1`.
 
-ghost use Rattle.std.specs.Prelude.{◌≡◌};
-
-use crate::gates::come;
-use crate::stores::{add_often, blank_of};
+use crate::gates::{add_one, come};
+use crate::sessions::{Deed, add_often};
+use crate::stores::Room;
 use book_steps::batch_of;
-use profile_store::{Batch, Blank, Journal, Session, Store, StoreName};
-use row_scripts::{Made, Words};
+use profile_store::{Batch, Session, StoreName};
+use row_scripts::{Made, Wrong};
 use std::alloc::Global;
-use std::marker::Brand;
-use std::sync::atomic::{AtomicU64, Ordering};
+use std::sync::atomic::AtomicU64;
 use std::sync::{Arc, Wait};
 use std::thread;
 use std::thread::Threads;
 
-/// Adds the rows of the input in one thread, and takes windows in another, each so often. It tells of the changes that
-/// each made, and what all windows and what is left weigh.
-pub(crate) fn run_windows<R: Threads + Wait + Sync>(
-    rt: &R,
-    words: Words,
-    input: &[u8],
+/// The first session adds rows in one thread, and the second takes windows in another, each so often. It tells what all
+/// windows and what is left weigh, which the second takes then.
+pub(crate) fn run<N: StoreName, R: Threads + Wait + Sync>(
+    room: &mut Room<'_, N, R>,
+    deed: Deed,
     made: &mut Made,
 ) {
-    if let Some(batch) = batch_of(Words { text: "" }, input, made) {
-        run_store(rt, words, &batch, made);
-    }
-}
-
-fn run_store<R: Threads + Wait + Sync>(rt: &R, words: Words, batch: &Arc<Batch>, made: &mut Made) {
-    match blank_of(words, made) {
-        Ok(blank) => weigh::<Brand, R>(rt, words, blank, batch, made),
-        Err(fault) => made.refuse(&fault),
+    let times = made.number(deed.words.word(0));
+    if let Some(batch) = batch_of(deed.words.rest(1), deed.input, made) {
+        weigh(room.rt, room.sessions.as_mut_slice(), &batch, times, made);
     }
 }
 
 fn weigh<N: StoreName, R: Threads + Wait + Sync>(
     rt: &R,
-    words: Words,
-    blank: Blank,
-    batch: &Arc<Batch>,
-    made: &mut Made,
-)
-    requires { blank
-        ≡ record { limit = N.limit; sessions = N.sessions; width = N.width; history = N.history } }
-{
-    let store = Store::<N>::start(blank);
-    let taken = add_and_take(
-        rt,
-        &store,
-        batch,
-        made.number_after(words, "times", 1),
-        made,
-    );
-    tell_weight(taken, &store.close(rt), made);
-}
-
-/// Adds what the windows and what is left weigh.
-fn tell_weight(taken: u64, journal: &Journal, made: &mut Made) {
-    let left = journal.tree().total().values()[0];
-    made.say(&format_args!("weight {}", taken.saturating_add(left)));
-}
-
-/// Two threads. It gives what the windows weigh.
-fn add_and_take<N: StoreName, R: Threads + Wait + Sync>(
-    rt: &R,
-    store: &Store<N>,
+    sessions: &mut [Session<'_, N>],
     batch: &Arc<Batch>,
     times: u64,
     made: &mut Made,
+) {
+    let Some((first, others)) = sessions.split_first_mut() else {
+        return made.fail(Wrong::Missing);
+    };
+    let Some(second) = others.first_mut() else {
+        return made.fail(Wrong::Missing);
+    };
+    let weight = add_and_take(rt, made.alloc(), first, second, batch, times);
+    made.say(&format_args!("weight {weight}"));
+}
+
+/// Two threads, which begin together. It gives what the windows weigh.
+fn add_and_take<N: StoreName, R: Threads + Wait + Sync>(
+    rt: &R,
+    alloc: Global,
+    first: &mut Session<'_, N>,
+    second: &mut Session<'_, N>,
+    batch: &Arc<Batch>,
+    times: u64,
 ) -> u64 {
-    let alloc = made.alloc();
     let there = AtomicU64::new(0);
-    let first = made.done(store.session(rt, alloc));
-    let second = made.done(store.session(rt, alloc));
-    let (added, (taken, weight)) = thread::join(
+    let (_, taken) = thread::join(
         rt,
-        || add_rows(rt, alloc, first, &there, batch, times),
-        || take_windows(rt, alloc, second, &there, times),
+        || {
+            meet(&there);
+            add_often(rt, alloc, first, batch, times)
+        },
+        || {
+            meet(&there);
+            take_often(rt, alloc, second, times)
+        },
     );
-    made.say(&format_args!("{added} added, {taken} taken"));
-    weight
+    taken.saturating_add(take_often(rt, alloc, second, 1))
 }
 
 /// A thread comes, and waits for the other.
 fn meet(there: &AtomicU64) {
-    let _ = there.fetch_add(1, Ordering::SeqCst);
+    add_one(there);
     let _ = come(there, 2);
 }
 
-/// A session that adds a batch so often, once the other is there. It gives how many receipts it has.
-fn add_rows<N: StoreName, R: Wait>(
+/// A session that takes so many windows. It gives what these weigh.
+fn take_often<N: StoreName, R: Wait>(
     rt: &R,
     alloc: Global,
-    session: Option<Session<'_, N>>,
-    there: &AtomicU64,
-    batch: &Arc<Batch>,
+    session: &mut Session<'_, N>,
     times: u64,
-) -> usize {
-    meet(there);
-    let Some(mut session) = session else {
-        return 0;
-    };
-    add_often(rt, alloc, &mut session, batch, times);
-    session.log().len()
-}
-
-/// A session that takes so many windows, once the other is there. It gives how many receipts it has, and what the
-/// windows weigh.
-fn take_windows<N: StoreName, R: Wait>(
-    rt: &R,
-    alloc: Global,
-    session: Option<Session<'_, N>>,
-    there: &AtomicU64,
-    times: u64,
-) -> (usize, u64) {
-    meet(there);
-    let Some(mut session) = session else {
-        return (0, 0);
-    };
+) -> u64 {
     let mut weight = 0_u64;
     for _ in 0..times {
-        let Ok(window) = session.take(rt, alloc) else {
-            break;
-        };
-        weight = weight.saturating_add(window.tree.total().values()[0]);
+        if let Ok(window) = session.take(rt, alloc) {
+            weight = weight.saturating_add(window.tree.total().values()[0]);
+        }
     }
-    (session.log().len(), weight)
+    weight
 }

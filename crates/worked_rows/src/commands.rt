@@ -2,8 +2,8 @@
 
 use book_steps::{compare_receipts, run_book};
 use profile_steps::run_tree;
-use program_steps::{Streams, run_program};
-use row_scripts::{Checker, Made, Script, Step, Words};
+use program_steps::{Streams, run_program, tell_faults};
+use row_scripts::{Checker, Script, Step, Words};
 use std::random::RandomSource;
 use std::sync::Wait;
 use std::thread::Threads;
@@ -72,43 +72,42 @@ fn run_step<R: Threads + Wait + RandomSource + Clock + Sync>(
     }
 }
 
-/// Runs a command that stands alone.
+/// Runs a command that stands alone, or changes how the streams of those after it behave.
 fn run_command<R: Threads + Wait + RandomSource + Clock + Sync>(
     rt: &R,
     checker: &mut Checker,
     streams: &mut Streams,
     words: Words,
 ) {
-    let (input, made) = (checker.input.bytes(), &mut checker.made);
-    match words.word(0) {
-        "let" => checker.name_input(words.word(1)),
-        "into" => {
-            run_program(rt, checker, *streams, words.rest(2));
-            checker.name_made(words.word(1));
-        }
-        "reader" | "writer" | "flush" | "limit" | "random" => streams.set(words, made),
-        "flame" | "as" | "both" | "each" | "process" | "read" => run_program(
-            rt, checker, *streams, words,
-        ),
-        _ => run_call(rt, words, input, made),
+    let name = words.word(0);
+    if name == "into" {
+        run_program(rt, checker, *streams, words.rest(2));
+        checker.name_made(words.word(1));
+    } else if runs_program(name) {
+        run_program(rt, checker, *streams, words);
+    } else if needs_host(name) {
+        program_steps::run_command(rt, words, checker.input.bytes(), &mut checker.made);
+    } else {
+        run_call(checker, streams, words);
     }
 }
 
-/// Runs a command that is a call of the library.
-fn run_call<R: Threads + Wait + RandomSource + Clock + Sync>(
-    rt: &R,
-    words: Words,
-    input: &[u8],
-    made: &mut Made,
-) {
+fn runs_program(name: &str) -> bool {
+    matches!(name, "flame" | "as" | "both" | "each" | "process" | "read")
+}
+
+fn needs_host(name: &str) -> bool {
+    matches!(name, "hashes" | "live" | "sources")
+}
+
+/// Runs a command that names something, changes the streams, or is a call of the library.
+fn run_call(checker: &mut Checker, streams: &mut Streams, words: Words) {
+    let (input, made) = (checker.input.bytes(), &mut checker.made);
     match words.word(0) {
-        "hashes" | "memory" | "faults" | "live" | "sources" => {
-            program_steps::run_command(rt, words, input, made)
-        }
-        "workers" | "held" | "windows" | "threads" => {
-            store_steps::run_command(rt, words, input, made)
-        }
+        "let" => checker.name_input(words.word(1)),
+        "reader" | "writer" | "flush" | "limit" | "random" => streams.set(words, made),
+        "faults" => tell_faults(words, made),
         "same" => compare_receipts(input, made),
-        _ => profile_steps::run_command(rt, words, input, made),
+        _ => profile_steps::run_command(words, input, made),
     }
 }

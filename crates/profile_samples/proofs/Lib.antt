@@ -8,6 +8,7 @@ pub mod FrameLists
 pub mod FrameNumbers
 pub mod ItemsById
 pub mod IdIndex
+pub mod LocationSums
 pub mod SampleBatches
 pub mod SampleRows
 pub mod MergedSamples

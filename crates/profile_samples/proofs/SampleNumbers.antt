@@ -54,23 +54,22 @@ names_named names numbers all inside = recursion_from_All IsName (names_at names
 
 -- ---- a sample's row
 
-pub sample_numbered : (profile frames : Draft) (own ids numbers lent : List ℕ) (leaf : Option ℕ) → frames ≡ profile
-    → ids ≡ own → lent ≡ numbers → All IsName (frame_names profile) → AreNumbersOfIds frames ids numbers
+pub sample_numbered : (draft : Draft) (ids numbers lent : List ℕ) (leaf : Option ℕ) → lent ≡ numbers
+    → All IsName (frame_names draft) → AreNumbersOfIds draft ids numbers
     → MatchOption leaf
-    (sample_stack_of frames ids ≡ []) (λ number. (number < length (frame_names frames)) × (callers : List (List ℕ))
-    × (sample_stack_of frames ids ≡ callers ++ slice_index_or (frame_names frames) number [] ∷ []))
-    → IsNumberedStack (frame_names profile) (sample_stack_of profile own) lent leaf
-sample_numbered profile frames own ids numbers lent leaf framed ids_are lent_is names are last =
-    rw (← framed, ← ids_are, lent_is) (record {
-      named = All-from_recursion IsName (sample_stack_of frames ids) (each_where IsName (sample_stack_of frames ids)
-          (λ q e. named_in q (names_at (frame_names frames) numbers)
-          (names_named (frame_names frames) numbers (rw (← framed) at names) are.inside) (same q ∙ e)));
-      inside = are.inside;
-      same = same;
-      last = last;
-    })
+    (sample_stack_of draft ids ≡ []) (λ number. (number < length (frame_names draft)) × (callers : List (List ℕ))
+    × (sample_stack_of draft ids ≡ callers ++ slice_index_or (frame_names draft) number [] ∷ []))
+    → IsNumberedStack (frame_names draft) (sample_stack_of draft ids) lent leaf
+sample_numbered draft ids numbers lent leaf lent_is names are last = rw lent_is (record {
+  named = All-from_recursion IsName (sample_stack_of draft ids) (each_where IsName (sample_stack_of draft ids)
+      (λ q e. named_in q (names_at (frame_names draft) numbers)
+      (names_named (frame_names draft) numbers names are.inside) (same q ∙ e)));
+  inside = are.inside;
+  same = same;
+  last = last;
+})
   where
     same : (q : List ℕ)
-        → has_name q (names_at (frame_names frames) numbers) ≡ has_name q (sample_stack_of frames ids)
-    same q = are.same q ∙ list_any-IsPermutation (is_same_name q) (frames_of_ids frames ids)
-        (sample_stack_of frames ids) (IsPermutation-reverse (frames_of_ids frames ids))
+        → has_name q (names_at (frame_names draft) numbers) ≡ has_name q (sample_stack_of draft ids)
+    same q = are.same q ∙ list_any-IsPermutation (is_same_name q) (frames_of_ids draft ids)
+        (sample_stack_of draft ids) (IsPermutation-reverse (frames_of_ids draft ids))

@@ -59,6 +59,7 @@ impl IdIndex {
     }
 
     /// An index at which the id stands.
+    #[inline(always)]
     pub fn find(&self, id: u64) -> Option<usize>
         ensures { MatchOption result ((at : ℕ) → slice_get self.now at ≢ Some id)
             (λ at. slice_get self.now at ≡ Some id) }

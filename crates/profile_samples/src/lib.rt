@@ -9,6 +9,7 @@ mod frame_lists;
 mod function_numbers;
 mod id_index;
 pub mod laws;
+mod location_sums;
 mod merged_samples;
 mod name_numbers;
 mod sampling;

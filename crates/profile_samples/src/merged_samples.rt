@@ -1,82 +1,82 @@
 //! The rows of a profile's samples, those of the same locations merged into one.
 
-ghost use Rattle.std.specs.Prelude.{[], ◌∷◌, ◌≡◌, ◌<◌, MatchResult, length, Some};
+ghost use Rattle.std.specs.Prelude.{[], ◌≡◌, ◌<◌, IfOk, MatchResult, OnOk, Some, length};
 ghost use Rattle.profile_samples.specs.declared.sampling.ValueChoice.{ValueChoice};
 ghost use Rattle.profile_rows.specs.Aggregate.{aggregate_of};
-ghost use Rattle.profile_rows.specs.Rows.{total_of};
-ghost use Rattle.profile_samples.specs.Samples.{IsSampleFault, chosen_types_of};
-ghost use Rattle.profile_samples.specs.Batches.{GivesOfStacks, StandsAtSample};
-ghost use Rattle.profile_samples.specs.MergedSamples.{AreRowsAt, IsMerged, IsMergedBatch};
+ghost use Rattle.profile_samples.specs.Samples.{chosen_types_of};
+ghost use Rattle.profile_samples.specs.Batches.{GivesOfStacks, IsStacksWorkFault, StandsAtSample};
+ghost use Rattle.profile_samples.specs.LocationSums.{AreSumsOf, FitStacks, rows_of_sums};
+ghost use Rattle.profile_samples.specs.MergedSamples.{IsMergedBatch};
 
+use crate::location_sums::LocationSums;
 use crate::name_numbers::NumberedFrames;
-use crate::sampling::{BatchFault, ValueChoice, chosen_value, sample_weight, weight_of};
+use crate::sampling::{BatchFault, ValueChoice, chosen_value, sample_weight};
 use basics::NoMemory;
-use indexmap::IndexSet;
-use pprof_profile::{Profile, SampleRef};
-use profile_rows::{Hashing, MAX_DEPTH, WeightedStacks};
+use pprof_profile::Profile;
+use profile_rows::{Hashing, WeightedStacks};
 use std::alloc::Global;
 
-/// Merges the row of a sample into the row of the same locations, or adds it where there is none.
-fn merge_sample<'a>(
-    alloc: Global,
+/// Sums the samples of a profile by their locations and the values at an index. Where memory runs out, the samples
+/// before have no fault, nor has the one at hand.
+fn sum_samples<'a>(
+    profile: &'a Profile,
     frames: &NumberedFrames,
-    known: &mut IndexSet<&'a [u64], Hashing>,
-    merged: &mut WeightedStacks,
+    sums: &mut LocationSums<'a>,
     chosen: usize,
-    sample: &SampleRef<'a>,
-    number: u64,
 ) -> Result<(), BatchFault>
-    requires values { chosen < length sample.now.values }
-    requires stacks { AreRowsAt frames.now known.old.keys merged.old }
-    ensures { MatchResult result
-        (λ done. IsMerged frames.now chosen sample.now known.new.keys merged.old merged.new)
-        (IsSampleFault frames.now chosen (total_of merged.old ∷ []) number sample.now) }
+    requires framed { frames.now ≡ profile.now }
+    requires typed { chosen < length profile.now.sample_types }
+    requires none { sums.old ≡ [] }
+    ensures sums { (choice : ValueChoice) → chosen_types_of profile.now choice ≡ Some (chosen, 1)
+        → MatchResult result (λ done. AreSumsOf profile.now choice sums.new)
+        (λ fault. StandsAtSample 1 profile.now choice fault) }
+    ensures stacks { OnOk result (FitStacks frames.now sums.new) }
 {
-    let ids = sample.location_ids();
-    if let Some(at) = known.get_index_of(ids) {
-        let weight = weight_of(sample.values(), chosen, number)?;
-        let heavy = BatchFault::Heavy { sample: number };
-        merged.add_weight(at, weight).map_err(|_| heavy)?;
-        return Ok(());
+    let samples = &profile.draft().samples;
+    for index in 0..samples.len() {
+        let sample = samples.at(index);
+        let weight = sample_weight(frames, chosen, &sample, sums.total(), index as u64)?;
+        sums.add(sample.location_ids(), weight)?;
     }
-    let weight = sample_weight(frames, chosen, sample, merged.total(), number)?;
-    let stack = frames.stack_at(alloc, ids)?;
-    merged.push(stack, weight).map_err(|_| NoMemory)?;
-    known.insert(ids).map_err(|_| NoMemory)?;
     Ok(())
 }
 
-/// The rows of a profile's samples by the values at an index, those of the same locations merged by a map that is empty
-/// yet. Where memory runs out, the samples before have no fault, nor has the one at hand.
+/// The rows of lists of locations.
+fn stacks_of(
+    alloc: Global,
+    frames: &NumberedFrames,
+    sums: &LocationSums,
+) -> Result<WeightedStacks, NoMemory>
+    requires { FitStacks frames.now sums.now }
+    ensures { IfOk result (λ stacks. stacks ≡ rows_of_sums frames.now sums.now) }
+{
+    let mut stacks = WeightedStacks::with_capacity(alloc, sums.len())?;
+    for index in 0..sums.len() {
+        let (ids, weight) = sums.at(index);
+        let stack = frames.stack_at(alloc, ids)?;
+        stacks.push(stack, weight).map_err(|_| NoMemory)?;
+    }
+    Ok(stacks)
+}
+
+/// The rows of a profile's samples by the values at an index, those of the same locations merged by sums, of which
+/// there are none yet. Where memory runs out at a sample, the samples before have no fault, nor has this one.
 fn merged_by<'a>(
     alloc: Global,
     profile: &'a Profile,
     frames: &NumberedFrames,
-    mut known: IndexSet<&'a [u64], Hashing>,
+    sums: &mut LocationSums<'a>,
     chosen: usize,
 ) -> Result<WeightedStacks, BatchFault>
     requires framed { frames.now ≡ profile.now }
     requires typed { chosen < length profile.now.sample_types }
-    requires none { known.keys ≡ [] }
+    requires none { sums.old ≡ [] }
     ensures { (choice : ValueChoice) → chosen_types_of profile.now choice ≡ Some (chosen, 1)
         → MatchResult result (λ merged. IsMergedBatch profile.now choice merged)
-        (λ fault. StandsAtSample 1 profile.now choice fault) }
+        (λ fault. IsStacksWorkFault profile.now choice fault) }
 {
-    let mut merged = WeightedStacks::new(alloc);
-    let samples = &profile.draft().samples;
-    for index in 0..samples.len() {
-        let sample = samples.at(index);
-        merge_sample(
-            alloc,
-            frames,
-            &mut known,
-            &mut merged,
-            chosen,
-            &sample,
-            index as u64,
-        )?;
-    }
-    Ok(merged)
+    sum_samples(profile, frames, sums, chosen)?;
+    Ok(stacks_of(alloc, frames, sums)?)
 }
 
 /// The rows of a profile's samples by one value, those of the same locations merged and their weights summed: as
@@ -97,7 +97,6 @@ pub fn merge_samples(
 {
     let chosen = chosen_value(alloc, profile.draft(), choice)?;
     let frames = NumberedFrames::new(alloc, hashing, profile)?;
-    let count = profile.draft().samples.len();
-    let known = IndexSet::with_capacity_and_hasher(alloc, count, hashing)?;
-    merged_by(alloc, profile, &frames, known, chosen)
+    let mut sums = LocationSums::new(alloc, hashing);
+    merged_by(alloc, profile, &frames, &mut sums, chosen)
 }

@@ -2,7 +2,7 @@
 use Rattle.std.proofs.lemmas.Grind.{common_steps}
 use Rattle.std.proofs.Common.{arith}
 use Rattle.profile_samples.proofs.MergedSamples.{gives_merged}
-use Rattle.profile_samples.proofs.SampleBatches.{first_of_standing, memory_first}
+use Rattle.profile_samples.proofs.SampleBatches.{first_of_work, memory_first}
 use Rattle.profile_samples.proofs.SampleRows.{chosen_types_within}
 use Rattle.std.proofs.lemmas.Result.{err_from_is_err_and}
 use Rattle.profile_samples.specs.MergedSamples.{IsMergedBatch}
@@ -20,13 +20,6 @@ returns-in_err-frames c =
     c.in_ok-chosen.chosen 1 c.from_residual-in_err-frames.result (rw c.draft.ensures.draft at c.in_ok-chosen.ensures)
     (omega arith) (grind (arith, common_steps, err_from_is_err_and)))
 
-pub returns-in_err-known : goal.returns-in_err-known
-returns-in_err-known c =
-    gives_merged c.args.profile.now c.args.choice c.from_residual-in_err-known.result
-    (memory_first (IsMergedBatch c.args.profile.now c.args.choice) 1 c.args.profile.now c.args.choice
-    c.in_ok-chosen.chosen 1 c.from_residual-in_err-known.result (rw c.draft.ensures.draft at c.in_ok-chosen.ensures)
-    (omega arith) (grind (arith, common_steps, err_from_is_err_and)))
-
 pub merged_by-requires-clause-typed : goal.merged_by-requires-clause-typed
 merged_by-requires-clause-typed c =
     let within = chosen_types_within c.args.profile.now c.args.choice c.in_ok-chosen.chosen 1
@@ -35,7 +28,4 @@ merged_by-requires-clause-typed c =
 
 pub returns : goal.returns
 returns c =
-    gives_merged c.args.profile.now c.args.choice c.merged_by.result
-    (first_of_standing (IsMergedBatch c.args.profile.now c.args.choice) 1
-    c.args.profile.now c.args.choice c.merged_by.result
-    (c.merged_by.ensures c.args.choice (rw c.draft.ensures.draft at c.in_ok-chosen.ensures)))
+    gives_merged c.args.profile.now c.args.choice c.merged_by.result (grind (arith, common_steps, first_of_work))

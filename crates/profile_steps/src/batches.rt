@@ -1,12 +1,12 @@
-//! Batches: rows that are read, given away and put together, each in every public way.
+//! Batches: rows that are read, lent, given away and put together, each in every public way.
 
 use crate::reports;
 use profile_rows::aggregate_stacks;
 use row_scripts::{Made, Words, Wrong};
 use spelled_rows::{add_folded, width_of};
 use stack_text::{
-    Batch, FoldedFault, Hashing, LineSums, NoMemory, OrderedRows, OwnedRow, WeightedStacks,
-    aggregate, export_folded, folded_totals, merge_lines, read_folded, read_folded_with,
+    Batch, FoldedFault, Hashing, LineSums, NoMemory, OrderedRows, OwnedRow, Stack, WeightedStacks,
+    Weights, aggregate, export_folded, folded_totals, merge_lines, read_folded, read_folded_with,
     read_ordered, write_stacks,
 };
 use std::alloc::Global;
@@ -108,11 +108,28 @@ fn agree_on_lines(
 /// `rows`, `rows width 2`: why rows are refused, and those that aren't, as folded text by each value, with the totals.
 fn write(asked: Asked, batch: &Batch, made: &mut Made) {
     add_folded(batch, made);
+    agree_on_lent_rows(batch, made);
     agree_on_given_rows(batch, made);
     agree_on_stacks(batch.first(), made);
     if asked.has_folded_text() {
         let again = read_folded_with(made.alloc(), asked.hashing, asked.input);
         made.compare("read_folded_with", again, batch);
+    }
+}
+
+fn agree_on_lent_rows(batch: &Batch, made: &mut Made) {
+    let mut lent = Batch::new(made.alloc(), batch.width());
+    for row in batch.rows() {
+        if let Some(stack) = made.done(row.stack.clone()) {
+            push(&mut lent, stack, row.weights, made);
+        }
+    }
+    made.agree("Batch::rows", lent == *batch);
+}
+
+fn push(batch: &mut Batch, stack: Stack, weights: Weights, made: &mut Made) {
+    if batch.push(stack, weights).is_err() {
+        made.fail(Wrong::Missing);
     }
 }
 
@@ -130,9 +147,7 @@ fn give_rows(batch: &Batch, given: &mut Batch, made: &mut Made) {
     let rows = rows_of(made.alloc(), batch);
     if let Some(rows) = made.done(rows) {
         for row in rows {
-            if given.push(row.stack, row.weights).is_err() {
-                made.fail(Wrong::Missing);
-            }
+            push(given, row.stack, row.weights, made);
         }
     }
 }

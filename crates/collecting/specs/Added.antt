@@ -26,10 +26,13 @@ IsLast text len (Some (Depth at)) = ⊤
 IsLast text len (Some (Heavy at)) = ⊥
 IsLast text len (Some NoMemory) = ⊥
 
+-- a text goes on so many bytes later
+abbrev pub IsAfter : Text → ℕ → Text → Type 0
+IsAfter text len rest = (rest.bytes ≡ text.bytes) × (rest.from ≡ text.from + len)
+
 -- what is left of a text once so many bytes more are added, up to a fault: the same text after them, or nothing
 abbrev pub GoesOn : Text → ℕ → Option FoldedFault → Option Text → Type 0
-GoesOn text len fault left = MatchOption left (IsLast text len fault)
-    (λ rest. (rest.bytes ≡ text.bytes) × (rest.from ≡ text.from + len))
+GoesOn text len fault left = MatchOption left (IsLast text len fault) (IsAfter text len)
 
 -- the next lines of a text, all or as many as a limit leaves, were added to the sums, and it goes on after them
 abbrev pub HasAdded : Text → List TextState → List TextState → Option Text → Type 0

@@ -261,8 +261,7 @@ impl<'a> Adder<'a> {
 
     /// Ends a window since memory ran out before a text was added.
     fn stop<R: Wait>(&mut self, rt: &R, window: &Window, text: Text)
-        ensures text { self.new.text ≡ Some text }
-        ensures sums { self.new.sums ≡ self.old.sums }
+        ensures { self.new ≡ record self.old { text = Some text } }
     {
         self.text = Some(text);
         window.end_early(rt, EarlyEnd::NoMemory);

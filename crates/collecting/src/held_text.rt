@@ -1,6 +1,7 @@
 //! Lines that were received and aren't all added yet.
 
 ghost use Rattle.std.specs.Prelude.{◌≡◌, ◌+◌, ◌≤◌, drop, length};
+ghost use Rattle.collecting.specs.Added.{IsAfter};
 
 use collect_sources::{Lines, Origin, count_lines};
 use std::sync::{Arc, Wait};
@@ -41,8 +42,7 @@ impl Text {
     /// Goes on after so many bytes, and gives how many lines of the origin come before them.
     pub(crate) fn skip(&mut self, len: usize) -> u64
         requires { self.old.from + len ≤ length self.old.bytes.items }
-        ensures bytes { self.new.bytes ≡ self.old.bytes }
-        ensures from { self.new.from ≡ self.old.from + len }
+        ensures { IsAfter self.old len self.new }
     {
         let until = self.from + len;
         let count = if until == self.bytes.len() {

@@ -1,4 +1,5 @@
 pub mod Deciding
 pub mod Endings
 pub mod Parts
+pub mod Runs
 pub mod Unanswered

@@ -1,16 +1,17 @@
 //! The program in a process: its words and its three streams, its exit status, and what it says of its end.
 
 ghost use Rattle.std.specs.Prelude.{◌≡◌, IfOk, IfErr, map, string_bytes};
+ghost use Rattle.std.specs.Io.KnownBytes.{Keeps};
 ghost use Rattle.std.specs.IoError.{error_kind};
 ghost use Rattle.std.specs.Process.{exit_status};
 ghost use Rattle.std.specs.Vec.Iter.{into_iter_items};
 ghost use Rattle.flame_program.specs.Outcomes.{code_of};
 ghost use Rattle.flame_program.specs.Process.{IsSaid, IsUnreadCause, IsUnreadEnd};
-ghost use Rattle.flame_program.specs.Program.{InputDecides, IsDone, IsEnd};
+ghost use Rattle.flame_program.specs.Program.{EndsBy, IsRun};
 ghost use Rattle.flame_words.specs.Words.{texts_of};
 
 use crate::outcomes::{Outcome, Status, ToolFault};
-use crate::program::run;
+use crate::program::outcome_of;
 use crate::streams::MAX_INPUT;
 use live_report::Progress;
 use std::alloc::{AllocError, Global};
@@ -51,34 +52,28 @@ pub fn run_process<
     writer: &mut W,
     errors: &mut E,
 ) -> End
-    // The exit status is the cause's, the cause says what was read and what was written, and it is said.
-    ensures ends { IfOk words (λ words. (cause : Outcome) × IsEnd (map string_bytes (into_iter_items words)) 268435456
+    // It is a run of the program, its exit status is the cause's, and the cause is said.
+    ensures ran { IfOk words (λ words. (cause : Outcome) × IsRun (map string_bytes (into_iter_items words)) MAX_INPUT
         (R.remaining reader.old) (R.remaining reader.new) (W.contents writer.old) (W.contents writer.new)
         (exit_status result.code) cause × IsSaid (E.contents errors.old) (E.contents errors.new) cause result.said) }
-    // At 0 the input was read to its end, and exactly the report on the rows that it spells was written.
-    ensures done { exit_status result.code ≡ 0 → IfOk words (λ words.
-        IsDone (map string_bytes (into_iter_items words)) 268435456
-        (R.remaining reader.old) (R.remaining reader.new) (W.contents writer.old) (W.contents writer.new)) }
-    // Where the words ask for something, the input alone decides, but where the streams, memory or a store failed.
-    ensures decided { IfOk words (λ words. InputDecides (map string_bytes (into_iter_items words)) 268435456
-        (R.remaining reader.old) (exit_status result.code)) }
     // Where the words can't be had, nothing is read or written, and it ends with 2 and a text that says so, or with 4.
     ensures unread { IfErr words (λ error. (cause : Outcome) × IsUnreadEnd (error_kind error)
         (R.remaining reader.old) (R.remaining reader.new) (W.contents writer.old) (W.contents writer.new)
         (exit_status result.code) cause × IsSaid (E.contents errors.old) (E.contents errors.new) cause result.said) }
 {
-    let status = run_words(rt, alloc, progress, words, reader, writer);
+    let cause = run_words(rt, alloc, progress, words, reader, writer);
+    let said = say(errors, &cause);
     End {
-        code: exit_code(&status),
-        said: say(errors, &status.cause),
+        code: exit_code(cause),
+        said,
     }
 }
 
 // The exit status of a process that ends so.
-fn exit_code(status: &Status) -> ExitCode
-    ensures { exit_status result ≡ status.now.code }
+fn exit_code(cause: Outcome) -> ExitCode
+    ensures { exit_status result ≡ code_of cause }
 {
-    ExitCode::from(status.code)
+    ExitCode::from(Status::of(cause).code)
 }
 
 // Says the cause on the error writer: nothing where the report was written.
@@ -88,7 +83,7 @@ fn say<E: Write>(errors: &mut E, cause: &Outcome) -> io::Result<()>
     write!(errors, "{cause}")
 }
 
-// Runs on the words, where they can be had.
+// How the run on the words ends, where they can be had.
 fn run_words<T: Threads + Wait + RandomSource + Sync, P: Progress, R: Read, W: Write>(
     rt: &T,
     alloc: Global,
@@ -96,18 +91,12 @@ fn run_words<T: Threads + Wait + RandomSource + Sync, P: Progress, R: Read, W: W
     words: io::Result<Args>,
     reader: &mut R,
     writer: &mut W,
-) -> Status
-    ensures ends { IfOk words (λ words. IsEnd (map string_bytes (into_iter_items words)) 268435456
-        (R.remaining reader.old) (R.remaining reader.new) (W.contents writer.old) (W.contents writer.new)
-        result.code result.cause) }
-    ensures done { result.code ≡ 0
-        → IfOk words (λ words. IsDone (map string_bytes (into_iter_items words)) 268435456
-        (R.remaining reader.old) (R.remaining reader.new) (W.contents writer.old) (W.contents writer.new)) }
-    ensures decided { IfOk words (λ words. InputDecides (map string_bytes (into_iter_items words)) 268435456
-        (R.remaining reader.old) result.code) }
-    ensures unread { IfErr words (λ error. IsUnreadEnd (error_kind error)
-        (R.remaining reader.old) (R.remaining reader.new) (W.contents writer.old) (W.contents writer.new)
-        result.code result.cause) }
+) -> Outcome
+    ensures ends { IfOk words (λ words. EndsBy (map string_bytes (into_iter_items words)) MAX_INPUT
+        (R.remaining reader.old) (R.remaining reader.new) (W.contents writer.old) (W.contents writer.new) result) }
+    ensures unread { IfErr words (λ error. IsUnreadCause (error_kind error) result
+        × Keeps (R.remaining reader.old) (R.remaining reader.new)
+        × Keeps (W.contents writer.old) (W.contents writer.new)) }
 {
     match words {
         Ok(words) => run_args(rt, alloc, progress, words, reader, writer),
@@ -115,7 +104,7 @@ fn run_words<T: Threads + Wait + RandomSource + Sync, P: Progress, R: Read, W: W
     }
 }
 
-// Runs on all of the words.
+// How the run on all of the words ends.
 fn run_args<T: Threads + Wait + RandomSource + Sync, P: Progress, R: Read, W: Write>(
     rt: &T,
     alloc: Global,
@@ -123,18 +112,13 @@ fn run_args<T: Threads + Wait + RandomSource + Sync, P: Progress, R: Read, W: Wr
     words: Args,
     reader: &mut R,
     writer: &mut W,
-) -> Status
-    ensures ends { IsEnd (map string_bytes (into_iter_items words)) 268435456
-        (R.remaining reader.old) (R.remaining reader.new) (W.contents writer.old) (W.contents writer.new)
-        result.code result.cause }
-    ensures done { result.code ≡ 0 → IsDone (map string_bytes (into_iter_items words)) 268435456
-        (R.remaining reader.old) (R.remaining reader.new) (W.contents writer.old) (W.contents writer.new) }
-    ensures decided { InputDecides (map string_bytes (into_iter_items words)) 268435456 (R.remaining reader.old)
-        result.code }
+) -> Outcome
+    ensures { EndsBy (map string_bytes (into_iter_items words)) MAX_INPUT (R.remaining reader.old)
+        (R.remaining reader.new) (W.contents writer.old) (W.contents writer.new) result }
 {
     match owned_words(alloc, words) {
         Ok(words) => run_texts(rt, alloc, progress, words.as_slice(), reader, writer),
-        Err(_) => no_memory(),
+        Err(_) => Outcome::Fault(ToolFault::NoMemory),
     }
 }
 
@@ -145,7 +129,7 @@ fn owned_words(alloc: Global, words: Args) -> Result<Vec<String>, AllocError>
     words.collect(alloc)
 }
 
-// Runs on the texts of the words.
+// How the run on the texts of the words ends.
 fn run_texts<T: Threads + Wait + RandomSource + Sync, P: Progress, R: Read, W: Write>(
     rt: &T,
     alloc: Global,
@@ -153,20 +137,16 @@ fn run_texts<T: Threads + Wait + RandomSource + Sync, P: Progress, R: Read, W: W
     words: &[String],
     reader: &mut R,
     writer: &mut W,
-) -> Status
-    ensures ends { IsEnd (map string_bytes words.now) 268435456
-        (R.remaining reader.old) (R.remaining reader.new) (W.contents writer.old) (W.contents writer.new)
-        result.code result.cause }
-    ensures done { result.code ≡ 0 → IsDone (map string_bytes words.now) 268435456
-        (R.remaining reader.old) (R.remaining reader.new) (W.contents writer.old) (W.contents writer.new) }
-    ensures decided { InputDecides (map string_bytes words.now) 268435456 (R.remaining reader.old) result.code }
+) -> Outcome
+    ensures { EndsBy (map string_bytes words.now) MAX_INPUT (R.remaining reader.old) (R.remaining reader.new)
+        (W.contents writer.old) (W.contents writer.new) result }
 {
     match texts_in(alloc, words) {
         Ok(texts) => {
             let texts = texts.as_slice();
-            run(rt, alloc, progress, texts, reader, writer, MAX_INPUT)
+            outcome_of(rt, alloc, progress, texts, reader, writer, MAX_INPUT)
         }
-        Err(_) => no_memory(),
+        Err(_) => Outcome::Fault(ToolFault::NoMemory),
     }
 }
 
@@ -177,24 +157,15 @@ fn texts_in<'a>(alloc: Global, words: &'a [String]) -> Result<Vec<&'a str>, Allo
     words.iter().map(|word| word.as_str()).collect(alloc)
 }
 
-// The end of a run for which memory ran out.
-fn no_memory() -> Status
-    ensures cause { result.cause ≡ Outcome.Fault ToolFault.NoMemory }
-    ensures code { result.code ≡ 4 }
-{
-    Status::of(Outcome::Fault(ToolFault::NoMemory))
-}
-
-// The end of a run whose words can't be had: some word isn't text, or memory ran out.
-fn unread_words(alloc: Global, error: &io::Error) -> Status
-    ensures code { result.code ≡ code_of result.cause }
-    ensures cause { IsUnreadCause (error_kind error.now) result.cause }
+// The cause of an end where the words can't be had: some word isn't text, or memory ran out.
+fn unread_words(alloc: Global, error: &io::Error) -> Outcome
+    ensures { IsUnreadCause (error_kind error.now) result }
 {
     if error.kind() == ErrorKind::OutOfMemory {
-        return no_memory();
+        return Outcome::Fault(ToolFault::NoMemory);
     }
     match format!(in alloc; "error: the words aren't text: {error}\n") {
-        Ok(text) => Status::of(Outcome::Words(text)),
-        Err(_) => no_memory(),
+        Ok(text) => Outcome::Words(text),
+        Err(_) => Outcome::Fault(ToolFault::NoMemory),
     }
 }

@@ -37,8 +37,8 @@ pub fn run<'a, T: Threads + Wait + RandomSource + Sync, P: Progress, R: Read, W:
     Status::of(outcome_of(rt, alloc, progress, words, reader, writer, limit))
 }
 
-// How the run ends.
-fn outcome_of<'a, T: Threads + Wait + RandomSource + Sync, P: Progress, R: Read, W: Write>(
+/// How the run ends.
+pub(crate) fn outcome_of<'a, T: Threads + Wait + RandomSource + Sync, P: Progress, R: Read, W: Write>(
     rt: &T,
     alloc: Global,
     progress: &P,

@@ -107,9 +107,8 @@ impl<'a> Counting<'a> {
     /// Counts the rows that wait.
     fn count_waiting(&mut self) -> Result<(), NoMemory>
         requires { (merged : List WeightedStack) × AreCounted self.old.waiting self.old.counted merged }
-        ensures none { OnOk result (self.new.waiting ≡ None) }
-        ensures counted { (merged : List WeightedStack) → AreCounted self.old.waiting self.old.counted merged
-            → OnOk result (HasCounted merged self.new.counted) }
+        ensures { (merged : List WeightedStack) → AreCounted self.old.waiting self.old.counted merged
+            → OnOk result ((self.new.waiting ≡ None) × HasCounted merged self.new.counted) }
     {
         if let Some(sums) = self.waiting.take() {
             count_rows(&mut self.counted, &mut self.frames, sums.rows())?;

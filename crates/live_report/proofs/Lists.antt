@@ -1,9 +1,10 @@
 -- What operations of lists weigh, as the lists grow.
 use Rattle.std.proofs.lemmas.Grind.{common_steps}
-use Rattle.std.proofs.Common.{ℕ, suc, ◌≡◌, ◌<◌, ◌+◌, ◌*◌, List, [], ◌∷◌, ◌++◌, length, get_or, set, map, Option, None}
+use Rattle.std.proofs.Common.{ℕ, zero, suc, ◌≡◌, ◌<◌, ◌+◌, ◌*◌, List, [], ◌∷◌, ◌++◌, length, get_or, set, map, Option, None}
 use Rattle.std.proofs.Common.{ap, sym, subst, ◌∙◌, refl, arith}
-use Rattle.std.specs.Prelude.{MatchOption, sum_by}
+use Rattle.std.specs.Prelude.{MatchOption, replicate, sum_by}
 use Rattle.std.proofs.lemmas.List.{append_assoc, get_or-map, length-map, map_push}
+use Rattle.std.proofs.lemmas.List.Folds.{sum_by-replicate}
 use Rattle.std.proofs.lemmas.List.Sums.{sum_by-append, sum_by-cons, sum_by_push, sum_by-set}
 use Rattle.op_book.specs.Operations.{PlainOp}
 use Rattle.op_book.specs.declared.entry.SessionLog.{SessionLog}
@@ -19,6 +20,16 @@ pub weigh-push : (weight : PlainOp → ℕ) (lists : List (List PlainOp)) (k : �
     → weigh weight (set lists k (old ++ op ∷ [])) ≡ weigh weight lists + weight op
 weigh-push weight lists k old op lt is =
     grind (arith, common_steps, sum_by_push, sum_by-set (sum_by weight) lists k (old ++ op ∷ []) [] lt)
+
+-- empty lists weigh nothing
+pub weigh-none : (weight : PlainOp → ℕ) (count : ℕ) → weigh weight (replicate count []) ≡ 0
+weigh-none weight count = omega (arith, sum_by-replicate (sum_by weight) count [])
+
+-- each empty list is empty
+pub get_or-none : (count worker : ℕ) → get_or {List PlainOp} (replicate count []) worker [] ≡ []
+get_or-none zero worker = refl
+get_or-none (suc count) zero = refl
+get_or-none (suc count) (suc worker) = get_or-none count worker
 
 -- the same operations at the end of each list
 pub weigh-ends : (weight : PlainOp → ℕ) (ends : List PlainOp) (lists : List (List PlainOp))

@@ -1,6 +1,7 @@
 //! Dealing the rows of a batch to workers.
 
-ghost use Rattle.std.specs.Prelude.{ℕ, ◌≡◌, ◌+◌, ◌<◌, ◌++◌, [], get_or, length, map, sum_by, IfOk, OnOk};
+ghost use Rattle.std.specs.Prelude.{ℕ, ◌≡◌, ◌+◌, ◌<◌, ◌++◌, [], get_or, length, map, replicate};
+ghost use Rattle.std.specs.Prelude.{sum_by, IfOk, OnOk};
 ghost use Rattle.std.specs.Arc.{arc_value};
 ghost use Rattle.op_book.specs.Operations.{PlainOp, ask, plain_op};
 ghost use Rattle.profile_rows.specs.OwnedRows.{plain_row};
@@ -43,11 +44,7 @@ fn own_batch(batch: Arc<Batch>) -> Result<Batch, NoMemory>
 
 /// So many lists without operations.
 fn empty_lists(alloc: Global, count: u32) -> Result<Vec<Vec<Op>>, NoMemory>
-    ensures count { IfOk result (λ lists. length lists.items ≡ count) }
-    ensures empty { IfOk result (λ lists. (weight : PlainOp → ℕ)
-        → weigh weight (map (λ list. map plain_op list.items) lists.items) ≡ 0) }
-    ensures each { IfOk result (λ lists. (worker : ℕ)
-        → get_or (map (λ list. map plain_op list.items) lists.items) worker [] ≡ []) }
+    ensures { IfOk result (λ lists. map (λ list. map plain_op list.items) lists.items ≡ replicate count []) }
 {
     let mut lists = Vec::with_capacity(alloc, count as usize)?;
     for _ in 0..count {

@@ -119,9 +119,8 @@ fn blank_for(
     width: Width,
     options: LiveOptions,
 ) -> Result<Blank, LiveFault>
-    ensures width { IfOk result (λ blank. blank.width ≡ width) }
-    ensures numbers { IfOk result (λ blank. (blank.limit ≡ changes_for options rows)
-        × (blank.sessions ≡ sessions_for options)) }
+    ensures blank { IfOk result (λ blank. (blank.limit ≡ changes_for options rows)
+        × (blank.sessions ≡ sessions_for options) × (blank.width ≡ width)) }
     ensures fault { IfErr result (λ fault. is_shortage fault ≡ true) }
 {
     let workers = options.sessions();

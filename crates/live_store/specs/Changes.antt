@@ -4,7 +4,7 @@ use mathlib.Core.List.{IsPrefix}
 use Rattle.call_tree.specs.State.{TreeState}
 use Rattle.op_book.specs.Books.{BookState, IsAppended, IsChangeRefused, IsReplay, ReadyState, change_told}
 use Rattle.op_book.specs.Books.{receipt_after}
-use Rattle.op_book.specs.Operations.{PlainEntry, PlainOp, is_change}
+use Rattle.op_book.specs.Operations.{PlainEntry, PlainOp, PlainReceipt, is_change}
 use Rattle.op_book.specs.Runs.{turns_of}
 use Rattle.op_book.specs.declared.fault.BookFault.{BookFault}
 use Rattle.op_book.specs.declared.fault.BookFault.TheVariants as book
@@ -15,6 +15,11 @@ use Rattle.live_store.specs.declared.locked_book.log.Log.{Log}
 -- a session by its log and the changes that it knows of
 abbrev pub session_of : Log → List PlainEntry → SessionState
 session_of log seen = record { number = log.number; log = log.receipts.items; seen = seen }
+
+-- a log keeps its number, and ends with a receipt more
+pub record HasKept (before : Log) (receipt : PlainReceipt) (after : Log) : Type 0 where
+  pub number : after.number ≡ before.number
+  pub log : after.receipts.items ≡ before.receipts.items ++ receipt ∷ []
 
 -- a session made a change: the change stands at this place, after all that was known; it is the last of what is known
 -- now and of what others may be told; and the log ends with its receipt

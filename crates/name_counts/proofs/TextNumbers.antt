@@ -68,12 +68,6 @@ pub number_answered : (items : List (Bor (List ℕ))) (text : List ℕ)
     ≡ number_in (map (λ (item : Bor (List ℕ)). item.now) items) text
 number_answered items text = grind (arith, common_steps, length-map, number_in-le, place_of_text)
 
--- where a set has a text there stands it
-pub position_found : (items : List (Bor (List ℕ))) (text : List ℕ) (at : ℕ)
-    → Some at ≡ position (λ (item : Bor (List ℕ)). bytes_eq text item.now) items
-    → (at ≡ number_in (map (λ (item : Bor (List ℕ)). item.now) items) text) × (at < length items)
-position_found items text at is = grind (arith, common_steps, place_of_text)
-
 -- a text that is lent, put into a set of others
 pub text_inserted : (items : List (Bor (List ℕ))) (item : Bor (List ℕ))
     → map (λ (text : Bor (List ℕ)). text.now) (insert_key (λ (left right : Bor (List ℕ)). bytes_eq left.now right.now)

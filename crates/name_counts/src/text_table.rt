@@ -33,8 +33,7 @@ impl<'a> Model for TextTable<'a> {
 impl<'a> TextTable<'a> {
     /// No texts yet, and `hashing` says how they will be hashed. Takes no memory.
     pub fn new(alloc: Global, hashing: Hashing) -> TextTable<'a>
-        ensures texts { result.texts ≡ [] }
-        ensures hashing { result.hashing ≡ hashing }
+        ensures { result ≡ record { texts = []; hashing = hashing } }
     {
         TextTable {
             texts: IndexSet::with_hasher(alloc, hashing),

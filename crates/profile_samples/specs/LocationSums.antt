@@ -61,7 +61,7 @@ pub record AddsSample (draft : Draft) (ids : List ℕ) (weight : ℕ) (old new :
   pub stacks : length (sample_stack_of draft ids) ≤ 65535 → FitStacks draft old → FitStacks draft new
 
 -- the lists' rows add up to those of a profile's samples
-pub record AreSumsOf (draft : Draft) (choice : ValueChoice) (sums : List LocationSum) : Type 0 where
+pub record AreSampleSums (draft : Draft) (choice : ValueChoice) (sums : List LocationSum) : Type 0 where
   pub rows : List WeightedStack
   pub sampled : AreStacksOf draft choice rows
   pub merged : AreMergedSoFar rows (rows_of_sums draft sums)

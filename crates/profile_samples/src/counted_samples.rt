@@ -150,9 +150,8 @@ impl<'a> Counting<'a> {
     fn count_waiting(&mut self, frames: &NumberedFrames) -> Result<(), AllocError>
         requires { (rows : List WeightedStack)
             × AreCounted frames.now self.old.waiting self.old.tallies rows }
-        ensures none { OnOk result (self.new.waiting ≡ None) }
-        ensures counted { (rows : List WeightedStack) → AreCounted frames.now self.old.waiting self.old.tallies rows
-            → OnOk result (HaveCounted frames.now rows self.new.tallies) }
+        ensures { (rows : List WeightedStack) → AreCounted frames.now self.old.waiting self.old.tallies rows
+            → OnOk result ((self.new.waiting ≡ None) × HaveCounted frames.now rows self.new.tallies) }
     {
         if let Some(sums) = self.waiting.take() {
             count_sums(frames, &mut self.tallies, &mut self.numbers, &sums)?;

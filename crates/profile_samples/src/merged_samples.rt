@@ -5,7 +5,7 @@ ghost use Rattle.profile_samples.specs.declared.sampling.ValueChoice.{ValueChoic
 ghost use Rattle.profile_rows.specs.Aggregate.{aggregate_of};
 ghost use Rattle.profile_samples.specs.Samples.{chosen_types_of};
 ghost use Rattle.profile_samples.specs.Batches.{GivesOfStacks, IsStacksWorkFault, StandsAtSample};
-ghost use Rattle.profile_samples.specs.LocationSums.{AreSumsOf, FitStacks, rows_of_sums};
+ghost use Rattle.profile_samples.specs.LocationSums.{AreSampleSums, FitStacks, rows_of_sums};
 ghost use Rattle.profile_samples.specs.MergedSamples.{IsMergedBatch};
 
 use crate::location_sums::LocationSums;
@@ -28,7 +28,7 @@ fn sum_samples<'a>(
     requires typed { chosen < length profile.now.sample_types }
     requires none { sums.old ≡ [] }
     ensures sums { (choice : ValueChoice) → chosen_types_of profile.now choice ≡ Some (chosen, 1)
-        → MatchResult result (λ done. AreSumsOf profile.now choice sums.new)
+        → MatchResult result (λ done. AreSampleSums profile.now choice sums.new)
         (λ fault. StandsAtSample 1 profile.now choice fault) }
     ensures stacks { OnOk result (FitStacks frames.now sums.new) }
 {

@@ -1,8 +1,9 @@
 //! A session's log.
 
-ghost use Rattle.std.specs.Prelude.{◌≡◌, ◌<◌, ◌++◌, ◌∷◌, [], ℕ, OnOk, false, length, true};
+ghost use Rattle.std.specs.Prelude.{◌≡◌, ◌<◌, [], ℕ, OnOk, false, length, true};
 ghost use Rattle.op_book.specs.Books.{change_told};
 ghost use Rattle.op_book.specs.Operations.{PlainOp, is_change};
+ghost use Rattle.live_store.specs.Changes.{HasKept};
 ghost use Rattle.live_store.specs.Stores.{changes_told};
 
 use op_book::Receipt;
@@ -76,8 +77,7 @@ impl Log {
         requires room { length self.old.receipts.items < self.old.receipts.cap }
         requires told { (op : PlainOp) × (place : ℕ)
             × (receipt ≡ change_told op place) × (is_change op ≡ true) }
-        ensures log { self.new.receipts.items ≡ self.old.receipts.items ++ receipt ∷ [] }
-        ensures number { self.new.number ≡ self.old.number }
+        ensures kept { HasKept self.old receipt self.new }
         ensures placed { result ≡ receipt.at }
     {
         self.turn += 1;
@@ -90,8 +90,7 @@ impl Log {
     pub(crate) fn keep_report(&mut self, receipt: Receipt)
         requires room { length self.old.receipts.items < self.old.receipts.cap }
         requires told { is_change receipt.op ≡ false }
-        ensures log { self.new.receipts.items ≡ self.old.receipts.items ++ receipt ∷ [] }
-        ensures number { self.new.number ≡ self.old.number }
+        ensures { HasKept self.old receipt self.new }
     {
         self.receipts.push_reserved(receipt);
     }

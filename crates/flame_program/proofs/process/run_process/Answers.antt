@@ -1,27 +1,32 @@
-use Rattle.std.proofs.Common.{map, string_bytes, subst, sym, ℕ, ◌∙◌}
-use Rattle.std.proofs.lemmas.Result.{IfErr-weaker}
-use Rattle.std.specs.Prelude.{IfOk}
+use Rattle.std.proofs.Common.{map, string_bytes}
+use Rattle.std.proofs.lemmas.Result.{IfErr-weaker, IfOk-weaker}
 use Rattle.std.specs.Vec.Iter.{into_iter_items}
-use Rattle.flame_program.specs.Program.{InputDecides}
+use Rattle.flame_program.proofs.Runs.{ran}
 use Rattle.flame_program.proofs.process.run_process.Goals as goal
 
-pub returns-clause-decided : goal.returns-clause-decided
-returns-clause-decided g c = subst (λ (code : ℕ). IfOk c.args.words (λ words. InputDecides
-    (map string_bytes (into_iter_items words)) 268435456 (g.R.Read.remaining c.args.reader.now) code))
-    (sym c.exit_code.ensures) c.run_words-status.ensures.decided
+pub returns-clause-ran : goal.returns-clause-ran
+returns-clause-ran g c =
+    IfOk-weaker c.args.words _ _
+    (λ words ends. (
+      c.run_words.result,
+      ran (map string_bytes (into_iter_items words)) 268435456 (g.R.Read.remaining c.args.reader.now)
+      (g.R.Read.remaining c.run_words.new.reader) (g.W.Write.contents c.args.writer.now)
+      (g.W.Write.contents c.run_words.new.writer) c.run_words.result _ ends c.exit_code.ensures,
+      c.say.ensures,
+    ))
+    c.run_words.ensures.ends
 
 pub returns-clause-unread : goal.returns-clause-unread
-returns-clause-unread g c =
+returns-clause-unread c =
     IfErr-weaker c.args.words _ _
     (λ error unread. (
-      c.run_words-status.result.cause,
+      c.run_words.result,
       record {
-        code_is = c.exit_code.ensures
-            ∙ unread.code_is;
-        cause_is = unread.cause_is;
-        reader_is = unread.reader_is;
-        writer_is = unread.writer_is;
+        code_is = c.exit_code.ensures;
+        cause_is = unread.0;
+        reader_is = unread.1;
+        writer_is = unread.2;
       },
       c.say.ensures,
     ))
-    c.run_words-status.ensures.unread
+    c.run_words.ensures.unread

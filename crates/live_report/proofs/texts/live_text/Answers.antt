@@ -23,5 +23,5 @@ returns g c =
       told = told;
     } in
     c.audited_text.ensures batch (ap (λ (b : BatchState). b.width) (sym c.deref-2.ensures)
-    ∙ sym c.width-width.ensures.width ∙ sym c.in_ok-blank.ensures.width ∙ sym c.in_ok-journal.ensures.width)
+    ∙ sym c.width-width.ensures.width ∙ sym c.in_ok-blank.ensures.blank.2 ∙ sym c.in_ok-journal.ensures.width)
     (subst (AreLogsOf options batch) (sym c.deref-3.ensures.value) worked)

@@ -40,5 +40,5 @@ returns c = λ rows so_far fits.
     let (row, this, adds) = c.in_ok-sum_line.ensures in
     let sums = spelled_rows c.sum_line.new.self in
     let (within, more) = waits rows merged (spelled_rows c.in-Some.sums) sums row same is adds in
-    let counted_now = c.in_ok-count_waiting.ensures.counted sums (refl, none) in
-    (row, this, within, (sums, more, rw c.in_ok-count_waiting.ensures.none counted_now))
+    let (done, counted_now) = c.in_ok-count_waiting.ensures sums (refl, none) in
+    (row, this, within, (sums, more, rw done counted_now))

@@ -28,7 +28,7 @@ returns-clause-event g c =
     ∙ (ap (λ l. l ++ entry_made c.args.ready ∷ []) c.args.self.now.whole ∙ ap (λ e. entries ++ e ∷ []) made)) in
     let changed : HasChanged (session_of c.args.log.now c.args.front.now) op c.keep_change-place.result c.front-3.result
     (session_of c.keep_change-place.new.self c.front-2.result) = record {
-      number = c.keep_change-place.ensures.number;
+      number = c.keep_change-place.ensures.kept.number;
       seen = subst (λ (l : List PlainEntry). IsPrefix l c.front-2.result) (sym next.known)
           (subst (IsPrefix entries) (sym seen) (entry_after entries n turn op ∷ [], refl));
       placed = record {
@@ -40,7 +40,7 @@ returns-clause-event g c =
         seen_is = seen;
       };
       told_is = c.front-3.ensures ∙ sym c.front-2.ensures;
-      log = c.keep_change-place.ensures.log
+      log = c.keep_change-place.ensures.kept.log
           ∙ ap (λ r. log ++ r ∷ []) (settled.told ∙ ap (change_told op) (sym place_is));
     } in
     record {

@@ -48,9 +48,9 @@ pub returns : goal.returns
 returns c = λ rows counted.
     let waits = rw c.in-Some.is at counted in
     let added = c.in_ok-add.ensures c.args.frames.now in
-    let counted_now = c.in_ok-count_waiting.ensures.counted (rows_of_sums c.args.frames.now c.add.new.self)
+    let (none, counted_now) = c.in_ok-count_waiting.ensures (rows_of_sums c.args.frames.now c.add.new.self)
     (refl, waits.1) in (
       rows_of_sums c.args.frames.now c.add.new.self,
-      rw c.in_ok-count_waiting.ensures.none counted_now,
+      rw none counted_now,
       rw (← waits.0) at added.adds,
     )

@@ -2,6 +2,7 @@
 use Rattle.std.specs.Prelude.{ℕ, ◌≡◌, ◌<◌, ◌≤◌, ◌+◌, ◌^◌, Bool, ◌&&◌, not, nat_eq, nat_lt, Option, Some, List, [], ◌∷◌}
 use Rattle.std.specs.Prelude.{◌++◌, length, slice_index_or, slice_set}
 use Rattle.profile_rows.specs.declared.weighted_stacks.WeightedStack.{WeightedStack}
+use Rattle.profile_rows.specs.Limits.{most_frames}
 use Rattle.profile_rows.specs.Rows.{has_name, total_of}
 use Rattle.profile_rows.specs.Aggregate.{Weighted, aggregate_of, rows_of}
 
@@ -75,7 +76,7 @@ pub record IsState (tree : PlainTree) : Type 0 where
       → i ≡ j
   pub closed : (k : ℕ) (stack : List (List ℕ)) (name : List ℕ) → k < length tree.nodes
       → stack_at tree.nodes k ≡ stack ++ name ∷ [] → HasParent tree stack name
-  pub deep : (k : ℕ) → k < length tree.nodes → length (stack_at tree.nodes k) ≤ 65535
+  pub deep : (k : ℕ) → k < length tree.nodes → length (stack_at tree.nodes k) ≤ most_frames
   pub fits : total_of tree.nodes < 2 ^ 63
 
 -- what every tree keeps true: there is a value, and by each value the nodes are the same but for their weights
@@ -136,7 +137,7 @@ pub record IsFresh (tree : PlainTree) (parent name : ℕ) (counts : Bool) : Type
   pub parent_lt : parent < length tree.nodes
   pub name_lt : name < length tree.names
   pub counted : counts ≡ not (has_name (name_at tree.names name) (stack_at tree.nodes parent))
-  pub deep : length (stack_at tree.nodes parent) < 65535
+  pub deep : length (stack_at tree.nodes parent) < most_frames
   pub fresh : (k : ℕ) → k < length tree.nodes
       → stack_at tree.nodes k ≡ stack_at tree.nodes parent ++ name_at tree.names name ∷ [] → ⊥
 

@@ -5,6 +5,7 @@ ghost use Rattle.std.specs.Prelude.{ℕ, ◌≡◌, ◌++◌, ◌+◌, ◌<◌, 
 ghost use Rattle.std.specs.List.{common_prefix_len};
 ghost use Rattle.std.specs.Ordering.{eq_by_cmp};
 ghost use Rattle.profile_rows.specs.Layout.{column_at, last_name, rectangle_at, rectangles_of};
+ghost use Rattle.profile_rows.specs.Limits.{most_frames};
 ghost use Rattle.profile_rows.specs.Names.{IsName, name_cmp};
 ghost use Rattle.profile_rows.specs.Paths.{begins_with, path_weight, prefixes};
 ghost use Rattle.profile_rows.specs.Rows.{total_of};
@@ -84,7 +85,7 @@ fn rect_at<'a>(
 ) -> Result<Rect, NoMemory>
     requires names { All IsName (map (λ frame. frame.now) frames.now) }
     requires within { depth ≤ length frames.now }
-    requires deep { depth ≤ 65535 }
+    requires deep { depth ≤ most_frames }
     ensures { IfOk result (λ rect. (rect.depth ≡ depth)
         × (rect.name ≡ last_name (take depth (map (λ frame. frame.now) frames.now)))
         × (rect.x ≡ span.start) × (rect.weight ≡ span.weight) × (rect.left ≡ span.left)

@@ -5,6 +5,9 @@ ghost use Rattle.flame_words.specs.LiveOptions.{most_workers, options_of};
 
 use std::marker::Model;
 
+/// The most sessions of a store.
+pub(crate) const MAX_SESSIONS: u32 = 64;
+
 /// How the rows are stored, and what is written.
 #[derive(Clone, Copy, Debug, PartialEq, Eq)]
 pub struct LiveOptions {
@@ -74,5 +77,5 @@ impl LiveOptions {
 fn most_workers(warm: bool) -> u32
     ensures { result ≡ most_workers warm }
 {
-    if warm { 63 } else { 64 }
+    if warm { MAX_SESSIONS - 1 } else { MAX_SESSIONS }
 }

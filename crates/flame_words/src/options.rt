@@ -7,6 +7,7 @@ ghost use Rattle.clap.specs.Words.{first_of, found_of, rows_of};
 ghost use Rattle.flame_words.specs.Options.{columns_of, flame_kind, format_named, is_digit, is_number, is_set};
 ghost use Rattle.flame_words.specs.Options.{number_named, rank_named, sessions_in, sessions_of, text_or, top_kind};
 
+use crate::live_options::MAX_SESSIONS;
 use crate::request::Format;
 use clap::ArgMatches;
 use flame_report::{Columns, Kind, Rank};
@@ -107,7 +108,7 @@ fn sessions_of(number: Option<u32>) -> Option<u32>
     ensures { result ≡ sessions_of number }
 {
     match number {
-        Some(number) if number != 0 && number < 65 => Some(number),
+        Some(number) if number != 0 && number <= MAX_SESSIONS => Some(number),
         _ => None,
     }
 }

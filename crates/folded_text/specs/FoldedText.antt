@@ -13,6 +13,7 @@ use Rattle.profile_rows.specs.Values.{BatchState, single_batch}
 use Rattle.folded_text.specs.declared.folded.FoldedFault.{FoldedFault}
 use Rattle.folded_text.specs.declared.folded.FoldedFault.TheVariants.{NotUtf8, NoCount, Count, Depth, Heavy, NoMemory}
 use Rattle.profile_rows.specs.Names.{IsName}
+use Rattle.profile_rows.specs.Limits.{most_frames}
 use Rattle.profile_rows.specs.Rows.{total_of}
 use Rattle.profile_rows.specs.Aggregate.{aggregate_of, rows_of}
 
@@ -44,7 +45,7 @@ pub record IsCounted (line : List ℕ) (row : WeightedStack) (stack digits : Lis
 pub record IsRowLine (line : List ℕ) (row : WeightedStack) : Type 0 where
   pub utf8 : IsUtf8 line
   pub counted : (stack : List ℕ) × (digits : List ℕ) × IsCounted line row stack digits
-  pub depth : length row.stack ≤ 65535
+  pub depth : length row.stack ≤ most_frames
   pub fits : row.weight < 2 ^ 63
 
 -- the line spells the row, its frames are names, and it can follow rows of the weight `earlier`
@@ -91,8 +92,8 @@ abbrev pub IsFittingFault : ℕ → ℕ → ℕ → ℕ → FoldedFault → Type
 IsFittingFault earlier number depth weight (NotUtf8 at) = ⊥
 IsFittingFault earlier number depth weight (NoCount at) = ⊥
 IsFittingFault earlier number depth weight (Count at) = ⊥
-IsFittingFault earlier number depth weight (Depth at) = (at ≡ number) × (65535 < depth)
-IsFittingFault earlier number depth weight (Heavy at) = (at ≡ number) × (depth ≤ 65535) × (2 ^ 63 ≤ earlier + weight)
+IsFittingFault earlier number depth weight (Depth at) = (at ≡ number) × (most_frames < depth)
+IsFittingFault earlier number depth weight (Heavy at) = (at ≡ number) × (depth ≤ most_frames) × (2 ^ 63 ≤ earlier + weight)
 IsFittingFault earlier number depth weight NoMemory = ⊥
 
 -- Why a line, which isn't empty, adds no row to rows of the weight `earlier`. Each case says that the ones before it
@@ -102,7 +103,7 @@ IsLineFault earlier number line (NotUtf8 at) = IsCountFault number line (NotUtf8
 IsLineFault earlier number line (NoCount at) = IsCountFault number line (NoCount at)
 IsLineFault earlier number line (Count at) = IsCountFault number line (Count at)
 IsLineFault earlier number line (Depth at) = (at ≡ number) × IsUtf8 line × (stack : List ℕ) × (digits : List ℕ)
-    × HasCount line stack digits × (digits_value 10 digits < 2 ^ 63) × (65535 < length (frames_of stack))
+    × HasCount line stack digits × (digits_value 10 digits < 2 ^ 63) × (most_frames < length (frames_of stack))
 IsLineFault earlier number line (Heavy at) = (at ≡ number) × (row : WeightedStack) × IsRowLine line row
     × (2 ^ 63 ≤ earlier + row.weight)
 IsLineFault earlier number line NoMemory = (row : WeightedStack) × IsRowLine line row

@@ -6,6 +6,7 @@ use Rattle.std.specs.declared.cmp.Ordering.{Ordering}
 use Rattle.profile_rows.specs.declared.weighted_stacks.WeightedStack.{WeightedStack}
 use Rattle.profile_rows.specs.Aggregate.{aggregate_of}
 use Rattle.profile_rows.specs.Merging.{AddsRow, with_added_at}
+use Rattle.profile_rows.specs.Limits.{most_frames}
 use Rattle.profile_rows.specs.Rows.{total_of}
 use Rattle.profile_rows.specs.StackTexts.{TextState}
 use Rattle.folded_text.specs.declared.folded.FoldedFault.{FoldedFault}
@@ -26,7 +27,7 @@ rows_with text rows = sum_by (λ (row : TextState). if bytes_eq text row.text th
 
 -- the text of a stack that a row can have, as it stands in a line
 abbrev pub IsStackText : List ℕ → Type 0
-IsStackText text = (length (frames_of text) ≤ 65535) × All (λ (byte : ℕ). byte ≢ 10) text
+IsStackText text = (length (frames_of text) ≤ most_frames) × All (λ (byte : ℕ). byte ≢ 10) text
 
 -- so many frames of so many bytes together has a stack text
 pub record IsMeasured (text : List ℕ) (count size : ℕ) : Type 0 where

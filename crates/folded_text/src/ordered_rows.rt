@@ -5,6 +5,7 @@ ghost use Rattle.std.specs.Option.{option_copied};
 ghost use Rattle.profile_rows.specs.declared.weighted_stacks.WeightedStack.{WeightedStack};
 ghost use Rattle.profile_rows.specs.Aggregate.{AreWeighty, IsAscending, Weighted, aggregate_of, rows_of};
 ghost use Rattle.profile_rows.specs.Merging.{row_at};
+ghost use Rattle.profile_rows.specs.Limits.{most_frames};
 ghost use Rattle.profile_rows.specs.Names.{IsName};
 ghost use Rattle.profile_rows.specs.Rows.{kept_rows, total_of};
 ghost use Rattle.profile_rows.specs.StackTexts.{AreStackTexts};
@@ -186,7 +187,7 @@ impl<'a> OrderedRows<'a> {
         ensures frames { OnOk result
             (map (λ frame. frame.now) frames.new.items ≡ (row_at self.now at).stack) }
         ensures names { OnOk result (All IsName (row_at self.now at).stack) }
-        ensures depth { length (row_at self.now at).stack ≤ 65535 }
+        ensures depth { length (row_at self.now at).stack ≤ most_frames }
     {
         match &self.rows {
             InOrder::Named(rows) => Ok(replace_by_names(frames, rows.rows()[at].stack.names())?),

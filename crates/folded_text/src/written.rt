@@ -2,6 +2,7 @@
 
 ghost use Rattle.std.specs.Prelude.{◌≡◌, ◌++◌, ◌<◌, ◌≤◌, All, IfOk, OnOk, length};
 ghost use Rattle.folded_text.specs.FoldedText.{IsFoldedBatch, IsTextOf, row_text};
+ghost use Rattle.profile_rows.specs.Limits.{most_frames};
 ghost use Rattle.profile_rows.specs.Names.{IsName};
 ghost use Rattle.profile_rows.specs.Values.{rows_at};
 
@@ -15,7 +16,7 @@ fn push_row(text: &mut Vec<u8>, stack: &Stack, weight: u64) -> Result<(), NoMemo
     ensures line { OnOk result
         (text.new.items ≡ text.old.items ++ row_text (record { stack = stack.now; weight = weight })) }
     ensures names { OnOk result (All IsName stack.now) }
-    ensures depth { length stack.now ≤ 65535 }
+    ensures depth { length stack.now ≤ most_frames }
 {
     for (index, name) in stack.names().iter().enumerate() {
         if index > 0 {

@@ -6,7 +6,7 @@ use Rattle.profile_rows.specs.Values.{rows_at}
 use Rattle.op_book.specs.Books.{BookState, IsFirstBookFault, JournalState}
 use Rattle.op_book.specs.Operations.{MissesWidth, PlainEntry, PlainOp, PlainReceipt, changes_in, is_change}
 use Rattle.op_book.specs.Operations.{operations_of, profile_after, rows_added}
-use Rattle.op_book.specs.Runs.{turns_of}
+use Rattle.op_book.specs.Runs.{most_sessions, turns_of}
 use Rattle.op_book.specs.declared.fault.BookFault.{BookFault}
 use Rattle.op_book.specs.declared.fault.BookFault.TheVariants as book
 use Rattle.live_store.specs.declared.fault.MakeFault.{MakeFault}
@@ -27,7 +27,7 @@ pub record IsBlankOf (limit sessions width : ℕ) (blank : StoreLimits) : Type 0
   pub sessions_are : blank.sessions ≡ sessions
   pub width_is : blank.width ≡ width
   pub some : 0 < sessions
-  pub few : sessions ≤ 64
+  pub few : sessions ≤ most_sessions
 
 -- the journal of a store of this limit, of so many sessions, and of rows of so many values
 pub record IsJournalOf (limit sessions width : ℕ) (journal : JournalState) : Type 0 where
@@ -37,9 +37,9 @@ pub record IsJournalOf (limit sessions width : ℕ) (journal : JournalState) : T
 
 -- why no store of so many sessions is made
 abbrev pub IsMakeFault : ℕ → MakeFault → Type 0
-IsMakeFault sessions make.Sessions = (sessions ≡ 0) ⊎ (64 < sessions)
-IsMakeFault sessions make.Place = (0 < sessions) × (sessions ≤ 64)
-IsMakeFault sessions make.NoMemory = (0 < sessions) × (sessions ≤ 64)
+IsMakeFault sessions make.Sessions = (sessions ≡ 0) ⊎ (most_sessions < sessions)
+IsMakeFault sessions make.Place = (0 < sessions) × (sessions ≤ most_sessions)
+IsMakeFault sessions make.NoMemory = (0 < sessions) × (sessions ≤ most_sessions)
 
 -- why a store of so many sessions gives none, when so many were given
 abbrev pub IsGiveFault : ℕ → ℕ → SessionFault → Type 0

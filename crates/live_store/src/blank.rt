@@ -28,13 +28,14 @@ impl Model for Blank {
     ghost use Rattle.left_right.specs.Sides.{view as known};
     ghost use Rattle.shown_versions.specs.Views.{listed};
     ghost use Rattle.live_store.specs.Stores.{StoreLimits};
+    ghost use Rattle.op_book.specs.Runs.{most_sessions};
 
     ghost Value = { StoreLimits };
 
     ghost view = { λ b. record
         { limit = b.book.limit; sessions = b.sessions; width = b.width; history = b.history } };
 
-    ghost invariant = { λ b. (b.book.entries ≡ []) × (b.book.sessions ≡ b.sessions) × (b.sessions ≤ 64)
+    ghost invariant = { λ b. (b.book.entries ≡ []) × (b.book.sessions ≡ b.sessions) × (b.sessions ≤ most_sessions)
         × (b.book.width ≡ b.width)
         × (b.versions.desk.shown.value.seen.log ≡ []) × (b.versions.desk.shown.value.seen.book ≡ b.history)
         × (b.versions.desk.shown.value.width ≡ b.width)

@@ -1,12 +1,14 @@
 -- What contracts see of a book and of a journal, and what both keep.
 use Rattle.std.specs.Prelude.{ℕ, ◌≡◌, ◌≢◌, ◌<◌, ◌≤◌, ◌+◌, ◌^◌, true, List, [], ◌∷◌, ◌++◌, length}
 use Rattle.profile_rows.specs.Aggregate.{aggregates_of}
+use Rattle.profile_rows.specs.Limits.{most_values}
 use Rattle.profile_rows.specs.Rows.{total_of}
 use Rattle.profile_rows.specs.Values.{rows_at, value_of}
 use Rattle.call_tree.specs.State.{PlanState, TreeState, total_in, weights_of}
 use Rattle.op_book.specs.Operations.{FitsWidth, MissesWidth, PlainOp, PlainEntry, PlainReceipt, is_change}
 use Rattle.op_book.specs.Operations.{operations_of, placed, plain_answer, profile_after, rows_added}
-use Rattle.op_book.specs.Runs.{AreChanges, AreOfSessions, AreOfWidth, AreTurnsInOrder, IsLegalRun, KeepLimit, turns_of}
+use Rattle.op_book.specs.Runs.{AreChanges, AreOfSessions, AreOfWidth, AreTurnsInOrder, IsLegalRun, KeepLimit}
+use Rattle.op_book.specs.Runs.{most_sessions, turns_of}
 use Rattle.op_book.specs.declared.fault.BookFault.{BookFault}
 use Rattle.op_book.specs.declared.fault.BookFault.TheVariants.{Session, Turn, Full, Width, Heavy, NoMemory, Version}
 
@@ -45,11 +47,11 @@ pub record IsJournal (journal : JournalState) : Type 0 where
   pub fitted : AreOfWidth journal.width journal.entries
   pub wide : journal.tree.width ≡ journal.width
   pub one : 0 < journal.width
-  pub four : journal.width ≤ 4
+  pub four : journal.width ≤ most_values
   pub light : KeepLimit journal.entries
   pub small : length journal.entries < 2 ^ 32
   pub some : 0 < journal.sessions
-  pub few : journal.sessions ≤ 64
+  pub few : journal.sessions ≤ most_sessions
 
 -- the journal that a book has so far
 abbrev pub journal_of : BookState → JournalState

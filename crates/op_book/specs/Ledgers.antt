@@ -1,7 +1,8 @@
 -- What a ledger keeps beside its entries.
 use Rattle.std.specs.Prelude.{ℕ, ◌≡◌, ◌<◌, ◌≤◌, ◌^◌, List, [], get_or, length}
 use Rattle.op_book.specs.Operations.{PlainEntry}
-use Rattle.op_book.specs.Runs.{AreChanges, AreOfSessions, AreOfWidth, AreTurnsInOrder, IsLegalRun, KeepLimit, turns_of}
+use Rattle.op_book.specs.Runs.{AreChanges, AreOfSessions, AreOfWidth, AreTurnsInOrder, IsLegalRun, KeepLimit}
+use Rattle.op_book.specs.Runs.{most_sessions, turns_of}
 
 -- the entries, how many there may be and of how many sessions, how many values a row has, and for how many entries
 -- there is memory
@@ -31,7 +32,7 @@ pub record IsLedger (entries : List PlainEntry) (limit width : ℕ) (turns : Lis
       → get_or turns session otherwise ≡ turns_of entries session
   pub count : length entries ≤ limit
   pub some : 0 < length turns
-  pub few : length turns ≤ 64
+  pub few : length turns ≤ most_sessions
   pub small : limit < 2 ^ 32
 
 -- what the entries of a ledger are
@@ -45,4 +46,4 @@ pub record AreLedgerEntries (ledger : LedgerState) : Type 0 where
   pub count : length ledger.entries ≤ ledger.limit
   pub small : ledger.limit < 2 ^ 32
   pub some : 0 < ledger.sessions
-  pub few : ledger.sessions ≤ 64
+  pub few : ledger.sessions ≤ most_sessions

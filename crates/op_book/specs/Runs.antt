@@ -5,6 +5,10 @@ use Rattle.profile_rows.specs.Values.{rows_at}
 use Rattle.op_book.specs.Operations.{FitsWidth, PlainEntry, PlainOp, PlainReply, is_change, operations_of, plain_answer}
 use Rattle.op_book.specs.Operations.{profile_after}
 
+-- the most sessions of a book
+abbrev pub most_sessions : ℕ
+most_sessions = 64
+
 -- how many entries a session has
 abbrev pub turns_of : List PlainEntry → ℕ → ℕ
 turns_of entries session = count_by (λ (entry : PlainEntry). entry.session == session) entries

@@ -2,6 +2,7 @@
 
 ghost use Rattle.std.specs.Prelude.{◌≡◌, ◌<◌, ◌≤◌, IfOk};
 ghost use Rattle.op_book.specs.Books.{AreTotals, IsBook, IsNewBook, IsTreeAfter, journal_of};
+ghost use Rattle.op_book.specs.Runs.{most_sessions};
 ghost use Rattle.std.specs.Arc.{arc_value};
 
 use crate::entry::{Entry, Receipt};
@@ -127,7 +128,7 @@ impl Book {
     /// `NoMemory`.
     pub fn new(alloc: Global, limit: u32, sessions: u32, width: Width) -> Result<Book, NoMemory>
         requires some { 0 < sessions }
-        requires few { sessions ≤ 64 }
+        requires few { sessions ≤ most_sessions }
         ensures { IfOk result (IsNewBook limit sessions width) }
     {
         Book::with_hashing(alloc, Hashing::fixed(), limit, sessions, width)
@@ -146,7 +147,7 @@ impl Book {
         width: Width,
     ) -> Result<Book, NoMemory>
         requires some { 0 < sessions }
-        requires few { sessions ≤ 64 }
+        requires few { sessions ≤ most_sessions }
         ensures { IfOk result (IsNewBook limit sessions width) }
     {
         let ledger = Ledger::new(alloc, limit, sessions, width)?;

@@ -4,6 +4,7 @@ ghost use Rattle.std.specs.Prelude.{ℕ, ◌≡◌, ◌<◌, ◌≤◌, ◌^◌,
 ghost use Rattle.op_book.specs.Books.{HasTurn, IsTurnFault};
 ghost use Rattle.op_book.specs.Ledgers.{AreLedgerEntries, IsNewLedger};
 ghost use Rattle.op_book.specs.Operations.{FitsWidth, is_change, operations_of, plain_answer, profile_after};
+ghost use Rattle.op_book.specs.Runs.{most_sessions};
 ghost use Rattle.profile_rows.specs.Rows.{total_of};
 ghost use Rattle.profile_rows.specs.Values.{rows_at};
 
@@ -49,7 +50,7 @@ impl Ledger {
         width: Width,
     ) -> Result<Ledger, AllocError>
         requires some { 0 < sessions }
-        requires few { sessions ≤ 64 }
+        requires few { sessions ≤ most_sessions }
         ensures { IfOk result (IsNewLedger limit sessions width) }
     {
         let turns = vec![in alloc; 0; sessions as usize]?;

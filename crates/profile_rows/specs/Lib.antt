@@ -2,6 +2,7 @@ pub mod Aggregate
 pub mod Equality
 pub mod Hashing
 pub mod Layout
+pub mod Limits
 pub mod LentRows
 pub mod LentStacks
 pub mod Names

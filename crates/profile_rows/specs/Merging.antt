@@ -4,6 +4,7 @@ use Rattle.std.specs.Prelude.{slice_set}
 use Rattle.std.specs.Ordering.{is_lt}
 use Rattle.std.specs.declared.cmp.Ordering.{Ordering}
 use Rattle.profile_rows.specs.declared.weighted_stacks.WeightedStack.{WeightedStack}
+use Rattle.profile_rows.specs.Limits.{most_frames}
 use Rattle.profile_rows.specs.Rows.{is_same_stack, stack_cmp, total_of, weight_if, weight_of}
 use Rattle.profile_rows.specs.Aggregate.{AreWeighty, IsAscending}
 
@@ -32,7 +33,7 @@ pub record AreSumsUpTo (stack : List (List ℕ)) (sums : List WeightedStack) : T
 
 -- at the index stands the row of this stack, which is no deeper than a stack can be
 abbrev pub IsStackAt : List WeightedStack → List (List ℕ) → ℕ → Type 0
-IsStackAt rows stack at = (at < length rows) × ((row_at rows at).stack ≡ stack) × (length stack ≤ 65535)
+IsStackAt rows stack at = (at < length rows) × ((row_at rows at).stack ≡ stack) × (length stack ≤ most_frames)
 
 -- the rows weigh a row more: each stack does, and all together
 pub record AddsRow (old new : List WeightedStack) (row : WeightedStack) : Type 0 where

@@ -6,6 +6,7 @@ use Rattle.std.specs.declared.cmp.Ordering.{Ordering}
 use Rattle.std.specs.Ordering.{nat_cmp, eq_by_cmp}
 use Rattle.std.specs.Cmp.Lexicographic.{slice_cmp}
 use Rattle.profile_rows.specs.declared.weighted_stacks.WeightedStack.{WeightedStack}
+use Rattle.profile_rows.specs.Limits.{most_frames}
 use Rattle.profile_rows.specs.Names.{IsName, is_same_name}
 
 -- stacks are ordered as lists of names, root first: a proper prefix comes before what it begins
@@ -18,7 +19,7 @@ is_same_stack = eq_by_cmp (slice_cmp (slice_cmp nat_cmp))
 -- what every row of a batch is: its names are names, within the limits
 pub record IsBatchRow (row : WeightedStack) : Type 0 where
   pub names : All IsName row.stack
-  pub depth : length row.stack ≤ 65535
+  pub depth : length row.stack ≤ most_frames
   pub fits : row.weight < 2 ^ 63
 
 -- whether some frame of the stack has the name, however many do

@@ -5,6 +5,7 @@ use Rattle.profile_rows.specs.declared.stack_texts.StackText.{StackText}
 use Rattle.profile_rows.specs.declared.weighted_stacks.WeightedStack.{WeightedStack}
 use Rattle.profile_rows.specs.Aggregate.{AreWeighty, Weighted, aggregate_of}
 use Rattle.profile_rows.specs.Names.{IsName}
+use Rattle.profile_rows.specs.Limits.{most_frames}
 use Rattle.profile_rows.specs.Rows.{total_of}
 
 -- a row by its text
@@ -27,5 +28,5 @@ pub record AreStackTexts (weights : Weighted) (texts : List StackText) : Type 0 
   pub weighty : AreWeighty rows
   pub apart : AllPairs (λ (a b : WeightedStack). a.stack ≢ b.stack) rows
   pub named : All (λ (row : WeightedStack). All IsName row.stack) rows
-  pub deep : All (λ (row : WeightedStack). length row.stack ≤ 65535) rows
+  pub deep : All (λ (row : WeightedStack). length row.stack ≤ most_frames) rows
   pub fits : total_of rows < 2 ^ 63

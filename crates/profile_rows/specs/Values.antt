@@ -2,6 +2,7 @@
 use Rattle.std.specs.Prelude.{ℕ, ◌≡◌, ◌+◌, ◌^◌, ◌≤◌, ◌<◌, ◌++◌, ◌-◌, ◌*◌, All, List, [], ◌∷◌, length, map}
 use Rattle.std.specs.Prelude.{slice_index_or, drop, take}
 use Rattle.profile_rows.specs.declared.weighted_stacks.WeightedStack.{WeightedStack}
+use Rattle.profile_rows.specs.Limits.{most_values}
 use Rattle.profile_rows.specs.Rows.{total_of}
 
 -- a stack and its values
@@ -20,7 +21,7 @@ padded values = values ++ drop (length values) (0 ∷ 0 ∷ 0 ∷ 0 ∷ [])
 -- four weights, of which the first are so many values, and the others 0
 pub record IsPadded (width : ℕ) (weights : List ℕ) : Type 0 where
   pub some : 0 < width
-  pub few : width ≤ 4
+  pub few : width ≤ most_values
   pub taken : length (take width weights) ≡ width
   pub rest : padded (take width weights) ≡ weights
 
@@ -62,7 +63,7 @@ single_batch rows = record { width = 1; rows = singles rows }
 -- what every batch is: its rows have its width, and the total of each value keeps the limit
 pub record IsBatch (batch : BatchState) : Type 0 where
   pub some : 0 < batch.width
-  pub few : batch.width ≤ 4
+  pub few : batch.width ≤ most_values
   pub widths : All (λ row. length row.weights ≡ batch.width) batch.rows
   pub fits : (value : ℕ) → total_of (rows_at value batch.rows) < 2 ^ 63
 

@@ -26,12 +26,13 @@ pub struct Stack {
 
 impl Model for Stack {
     ghost use Rattle.std.specs.Prelude.{List, ℕ, ◌≤◌, length};
+    ghost use Rattle.profile_rows.specs.Limits.{most_frames};
 
     ghost Value = { List (List ℕ) };
 
     ghost view = { λ s. s.names.items };
 
-    ghost invariant = { λ s. length s.names.items ≤ 65535 };
+    ghost invariant = { λ s. length s.names.items ≤ most_frames };
 }
 
 impl Stack {

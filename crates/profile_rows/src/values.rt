@@ -19,12 +19,13 @@ pub struct Width {
 
 impl Model for Width {
     ghost use Rattle.std.specs.Prelude.{ℕ, ◌<◌, ◌≤◌};
+    ghost use Rattle.profile_rows.specs.Limits.{most_values};
 
     ghost Value = { ℕ };
 
     ghost view = { λ w. w.count };
 
-    ghost invariant = { λ w. (0 < w.count) × (w.count ≤ 4) };
+    ghost invariant = { λ w. (0 < w.count) × (w.count ≤ most_values) };
 
     ghost inverse = { λ n. record { count = n } };
 }
@@ -107,7 +108,7 @@ impl Weights {
 
     /// A first value and up to three others.
     pub(crate) fn join(first: u64, others: &[u64]) -> Weights
-        requires { length others.now < 4 }
+        requires { length others.now < MAX_WIDTH }
         ensures { result ≡ first ∷ others.now }
     {
         let mut values = [first, 0, 0, 0];

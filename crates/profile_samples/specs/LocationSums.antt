@@ -6,6 +6,7 @@ use Rattle.std.specs.Str.{bytes_eq}
 use denote.Ref.{Bor}
 use Rattle.pprof_profile.specs.declared.messages.Draft.{Draft}
 use Rattle.profile_rows.specs.declared.weighted_stacks.WeightedStack.{WeightedStack}
+use Rattle.profile_rows.specs.Limits.{most_frames}
 use Rattle.profile_rows.specs.Merging.{AddsRow, AreMergedSoFar}
 use Rattle.profile_samples.specs.declared.sampling.ValueChoice.{ValueChoice}
 use Rattle.profile_samples.specs.Batches.{AreStacksOf}
@@ -52,13 +53,13 @@ rows_of_sums draft sums = map (row_of_sum draft) sums
 
 -- a stack can have the frames of each list
 abbrev pub FitStacks : Draft → List LocationSum → Type 0
-FitStacks draft sums = All (λ (sum : LocationSum). length (sample_stack_of draft sum.ids) ≤ 65535) sums
+FitStacks draft sums = All (λ (sum : LocationSum). length (sample_stack_of draft sum.ids) ≤ most_frames) sums
 
 -- a sample was added: the lists' rows weigh its row more, and stacks can have the frames where they can have its own
 pub record AddsSample (draft : Draft) (ids : List ℕ) (weight : ℕ) (old new : List LocationSum) : Type 0 where
   pub adds : AddsRow (rows_of_sums draft old) (rows_of_sums draft new)
       (record { stack = sample_stack_of draft ids; weight = weight })
-  pub stacks : length (sample_stack_of draft ids) ≤ 65535 → FitStacks draft old → FitStacks draft new
+  pub stacks : length (sample_stack_of draft ids) ≤ most_frames → FitStacks draft old → FitStacks draft new
 
 -- the lists' rows add up to those of a profile's samples
 pub record AreSampleSums (draft : Draft) (choice : ValueChoice) (sums : List LocationSum) : Type 0 where

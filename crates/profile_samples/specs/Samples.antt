@@ -17,6 +17,7 @@ use Rattle.profile_samples.specs.declared.sampling.BatchFault.TheVariants.{NoVal
 use Rattle.profile_samples.specs.declared.sampling.BatchFault.TheVariants.{NoMemory}
 use Rattle.profile_samples.specs.declared.sampling.ValueChoice.{ValueChoice}
 use Rattle.profile_samples.specs.declared.sampling.ValueChoice.TheVariants.{Default, Named, All}
+use Rattle.profile_rows.specs.Limits.{most_frames}
 use Rattle.profile_rows.specs.Names.{cleaned_name_of}
 use Rattle.profile_rows.specs.Values.{Row, value_of}
 
@@ -154,7 +155,7 @@ pub record AreChosen (most : ℕ) (draft : Draft) (choice : ValueChoice) (first 
 -- the row of a sample, by so many values from the first that is taken on
 pub record IsRowOfSample (draft : Draft) (first width : ℕ) (sample : Sample) (row : Row) : Type 0 where
   pub stack : row.stack ≡ sample_stack_of draft sample.location_ids
-  pub depth : length row.stack ≤ 65535
+  pub depth : length row.stack ≤ most_frames
   pub count : length row.weights ≡ width
   pub values : HasWeights first width sample.values row.weights
 
@@ -183,7 +184,7 @@ IsSampleFault draft first totals number sample (Negative at) = (value : ℕ) × 
     × IsValueFault (first + value) number sample.values (Negative at)
 IsSampleFault draft first totals number sample (Depth at) = (at ≡ number)
     × (weights : List ℕ) × HasWeights first (length totals) sample.values weights
-    × (65535 < length (sample_stack_of draft sample.location_ids))
+    × (most_frames < length (sample_stack_of draft sample.location_ids))
 IsSampleFault draft first totals number sample (Heavy at) = (at ≡ number)
     × (row : Row) × IsRowOfSample draft first (length totals) sample row
     × (value : ℕ) × (value < length totals) × (2 ^ 63 ≤ value_of value totals + value_of value row.weights)

@@ -2,6 +2,7 @@
 
 ghost use Rattle.std.specs.Prelude.{◌≡◌, ◌<◌, ◌≤◌, ◌^◌, All, IfOk, OnOk, [], length, map, pos, reverse};
 ghost use Rattle.std.specs.List.{flat_map};
+ghost use Rattle.profile_rows.specs.Limits.{most_frames};
 ghost use Rattle.profile_rows.specs.Names.{IsName};
 ghost use Rattle.profile_samples.specs.Export.{draft_with, exported_draft, exported_function, exported_location};
 ghost use Rattle.profile_samples.specs.Export.{exported_profile_of, exported_sample, exported_type, id_in, pairs_of};
@@ -43,7 +44,7 @@ fn names_of<'a>(
     rows: &'a [WeightedStack],
 ) -> Result<TextTable<'a>, NoMemory>
     ensures texts { IfOk result (λ names. names.texts ≡ with_texts [] (flat_map (λ row. row.stack) rows.now)) }
-    ensures each { OnOk result (All (λ row. All IsName row.stack × (length row.stack ≤ 65535)) rows.now) }
+    ensures each { OnOk result (All (λ row. All IsName row.stack × (length row.stack ≤ most_frames)) rows.now) }
 {
     let mut names = TextTable::new(alloc, hashing);
     for row in rows {

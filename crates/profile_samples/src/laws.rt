@@ -5,6 +5,7 @@ ghost use Rattle.std.specs.Prelude.{ℕ, ◌≡◌, ◌≢◌, ◌<◌, ◌≤�
 ghost use Rattle.pprof_profile.specs.Valid.{IsValidDraft};
 ghost use Rattle.profile_rows.specs.declared.weighted_stacks.WeightedStack.{WeightedStack};
 ghost use Rattle.profile_rows.specs.Rows.{IsBatchRow, total_of};
+ghost use Rattle.profile_rows.specs.Limits.{most_frames};
 ghost use Rattle.profile_rows.specs.Names.{IsName};
 ghost use Rattle.profile_rows.specs.Values.{BatchState, IsBatch, Row, rows_at};
 ghost use Rattle.pprof_profile.specs.declared.messages.Draft.{Draft};
@@ -22,7 +23,7 @@ pub fn export_reads_back()
     ensures rows { (rows : List WeightedStack) (kind unit : List ℕ) → All IsBatchRow rows → total_of rows < 2 ^ 63
         → AreStacksOf (single_profile_of rows kind unit) choices.Default rows }
     ensures batch { (batch : BatchState) (units : List KindAndUnit) → length units ≡ batch.width → IsBatch batch
-        → All (λ row. All IsName row.stack × (length row.stack ≤ 65535)) (rows_at 0 batch.rows)
+        → All (λ row. All IsName row.stack × (length row.stack ≤ most_frames)) (rows_at 0 batch.rows)
         → IsBatchOf (exported_profile_of batch.rows units) choices.All batch }
 {}
 

@@ -46,12 +46,15 @@ fn append_shown(writer: &mut VersionWriter) -> bool
     }
 }
 
-/// Gives the writer's list of pending versions its room, so that it refuses no later version: at most two are pending
-/// at a time. False where memory ran out.
+/// How many versions are laid before the writer for their room. The list gets eight places by them: for these five, for
+/// the version that shows them, and for the next. Later there are at most two at a time.
+const FOR_ROOM: u32 = 5;
+
+/// Gives the writer's list of versions its room, so that it refuses no later version. False where memory ran out.
 pub fn make_room(writer: &mut VersionWriter) -> bool
     ensures { writer.new.desk ≡ writer.old.desk }
 {
-    for _ in 0..5u32 {
+    for _ in 0..FOR_ROOM {
         if !append_shown(writer) {
             return false;
         }

@@ -1,6 +1,7 @@
 //! The nodes of rows, found in the index or made.
 
 ghost use Rattle.std.specs.Prelude.{◌≡◌, ◌<◌, ◌+◌, ◌≤◌, ◌++◌, ◌∷◌, ℕ, [], length, not, IfOk};
+ghost use Rattle.profile_rows.specs.Limits.{most_frames};
 ghost use Rattle.profile_rows.specs.Rows.{has_name};
 ghost use Rattle.call_tree.specs.State.{IsFresh, AreGrown, HasMoreNames, HasMoreNodes, nodes_at, plain_at, name_at};
 ghost use Rattle.call_tree.specs.State.{stack_at};
@@ -58,7 +59,7 @@ impl Grower {
         walk: &mut Walk,
     ) -> Result<u32, NoMemory>
         requires within { depth < length frames.now }
-        requires deep { length frames.now ≤ 65535 }
+        requires deep { length frames.now ≤ most_frames }
         requires path { IsOnPath (plain_at self.old 0) walk.old frames.now depth slot }
         ensures path { IfOk result (λ child. IsOnPath (plain_at self.new 0) walk.new frames.now (depth + 1) child) }
         ensures grown { AreGrown self.old self.new }
@@ -84,7 +85,7 @@ impl Grower {
         walk: &mut Walk,
     ) -> Result<u32, NoMemory>
         requires within { depth < length frames.now }
-        requires deep { length frames.now ≤ 65535 }
+        requires deep { length frames.now ≤ most_frames }
         requires path { IsOnPath (plain_at self.old 0) walk.old frames.now depth slot }
         ensures path { IfOk result (λ child. IsOnPath (plain_at self.new 0) walk.new frames.now (depth + 1) child) }
         ensures grown { AreGrown self.old self.new }
@@ -130,7 +131,7 @@ impl Grower {
         requires name { name < length self.old.names }
         requires counts { counts
             ≡ not (has_name (name_at self.old.names name) (stack_at (nodes_at self.old 0) parent)) }
-        requires deep { length (stack_at (nodes_at self.old 0) parent) < 65535 }
+        requires deep { length (stack_at (nodes_at self.old 0) parent) < most_frames }
         ensures child { IfOk result (IsSlot (plain_at self.new 0)
             (stack_at (nodes_at self.old 0) parent ++ name_at self.old.names name ∷ [])) }
         ensures nodes { HasMoreNodes self.old self.new }

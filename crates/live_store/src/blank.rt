@@ -48,7 +48,7 @@ fn first_version(alloc: Global, book: &Book, seen: Reached) -> Result<Version, N
     requires fresh { seen.log ≡ [] }
     ensures { IfOk result (λ version. version ≡ record { seen = seen; width = book.now.width }) }
 {
-    let _ = book.entries();
+    book.facts();
     let tree = book.tree().share()?;
     Ok(Version::new(0, Arc::new(alloc, tree)?, seen))
 }

@@ -56,7 +56,7 @@ fn version_of<N: StoreName>(book: &Book, front: &Front<N>, tree: Arc<CallTree>) 
     ensures { result
         ≡ record { seen = record { log = front.now; book = N.history }; width = book.now.width } }
 {
-    let _ = book.entries();
+    book.facts();
     Version::new(front.len(), tree, front.reached())
 }
 
@@ -150,7 +150,7 @@ impl<N: StoreName> LockedBook<N> {
             (change_op change.entry) (session_of log.new front.new) self.new.book) }
         ensures given { self.new.given ≡ self.old.given }
     {
-        let _ = self.book.entries();
+        self.book.facts();
         self.end.catch_up(front);
         match self.book.prepare(alloc, log.number(), log.turn(), change) {
             Ok(ready) => match ready.share_next() {
@@ -203,7 +203,7 @@ impl<N: StoreName> LockedBook<N> {
             result.place result.told (session_of log.new front.new) self.new.book }
         ensures given { self.new.given ≡ self.old.given }
     {
-        let _ = self.book.entries();
+        self.book.facts();
         self.end.add(&ready);
         let receipt = self.book.settle(ready);
         let version = version_of(&self.book, &self.end.front(), tree);
@@ -230,7 +230,7 @@ impl<N: StoreName> LockedBook<N> {
             versions,
         } = self;
         drop(versions.take(rt));
-        let _ = book.entries();
+        book.facts();
         book.into_journal()
     }
 }

@@ -272,6 +272,7 @@ fn work<'a, N: StoreName, G: Gate, R: Wait>(
         list,
     } = worker;
     let stopped = take_all(rt, alloc, &mut session, place, list, gate);
+    // What the session knows of bears out its log.
     let _ = session.log();
     FinishedWorker {
         log: session.close(),

@@ -157,19 +157,15 @@ impl Book {
 
     /// The tree of what counts.
     pub fn tree(&self) -> &CallTree
-        ensures tree { result.now ≡ self.now.tree }
-        ensures kept { IsBook self.now }
+        ensures { result.now ≡ self.now.tree }
     {
-        self.facts();
         self.grower.tree()
     }
 
     /// The entries, in the order in which the changes were made.
     pub fn entries(&self) -> &[Entry]
-        ensures entries { result.now ≡ self.now.entries }
-        ensures kept { IsBook self.now }
+        ensures { result.now ≡ self.now.entries }
     {
-        self.facts();
         self.ledger.entries()
     }
 
@@ -180,8 +176,8 @@ impl Book {
         Journal::new(self)
     }
 
-    /// What every book keeps.
-    pub(crate) fn facts(&self)
+    /// Does nothing; its clause says what every book keeps.
+    pub fn facts(&self)
         ensures { IsBook self.now }
     {
         let _ = self.ledger.entries();

@@ -16,7 +16,7 @@ returns-in-Err-clause-event g c =
     let whole = c.catch_up.ensures.whole in
     let refused = refused_first own.book store.limit store.sessions store.width c.number.result c.turn.result
     (session_of log c.args.front.now) (session_of log here) (change_op c.args.change) own.limit own.all own.wide
-    c.number.ensures c.turn.ensures c.requires.log.0 c.entries.ensures.kept.count
+    c.number.ensures c.turn.ensures c.requires.log.0 c.facts.ensures.count
     (is_change-change_op c.args.change) refl
     (caught_up c.args.front.now here own.end (whole, c.catch_up.ensures.began)) refl (whole ∙ own.whole)
     c.in-Err.fault c.in-Err.ensures.ready.first_fault in
@@ -35,7 +35,7 @@ returns-in-Err-share_next-clause-event g c =
     let whole = c.catch_up.ensures.whole in
     let refused = refused_first own.book store.limit store.sessions store.width c.number.result c.turn.result
     (session_of log c.args.front.now) (session_of log here) (change_op c.args.change) own.limit own.all own.wide
-    c.number.ensures c.turn.ensures c.requires.log.0 c.entries.ensures.kept.count
+    c.number.ensures c.turn.ensures c.requires.log.0 c.facts.ensures.count
     (is_change-change_op c.args.change) refl
     (caught_up c.args.front.now here own.end (whole, c.catch_up.ensures.began)) refl (whole ∙ own.whole)
     book.NoMemory c.in-Ok.ensures.ready.taken in

@@ -65,7 +65,7 @@ impl Nodes {
         self.links.len()
     }
 
-    /// What all nodes keep true, in the words of contracts.
+    /// Does nothing; its clause says what all nodes keep true.
     pub fn facts(&self)
         ensures { AreAlike self.now }
     {

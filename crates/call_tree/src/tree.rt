@@ -203,7 +203,7 @@ impl CallTree {
         })
     }
 
-    /// What every tree keeps true, in the words of contracts.
+    /// Does nothing; its clause says what every tree keeps true.
     pub(crate) fn facts(&self)
         ensures { AreStates self.now }
     {
@@ -260,6 +260,7 @@ fn add_weight(
         ≡ credited (node_rows names.now (nodes_of nodes.old value)) at weight) }
     ensures err { OnErr result (nodes.new ≡ nodes.old) }
 {
+    // Only the clauses speak of the names.
     let _names = names;
     let own = nodes.weight(value, at as usize) + weight;
     nodes.put_weight(value, at as usize, own)

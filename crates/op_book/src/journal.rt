@@ -37,6 +37,7 @@ impl Journal {
         ensures entries { result.now ≡ self.now.entries }
         ensures kept { IsJournal self.now }
     {
+        self.book.facts();
         self.book.entries()
     }
 
@@ -45,6 +46,7 @@ impl Journal {
         ensures tree { result.now ≡ self.now.tree }
         ensures kept { IsJournal self.now }
     {
+        self.book.facts();
         self.book.tree()
     }
 

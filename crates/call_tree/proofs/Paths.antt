@@ -13,7 +13,7 @@ use Rattle.profile_rows.specs.Names.{is_same_name}
 use Rattle.profile_rows.specs.Rows.{has_name}
 use Rattle.profile_rows.proofs.SameNames.{same_from_is_same_name, is_same_name-self}
 use Rattle.call_tree.specs.State.{PlainTree, IsState, IsGrown, name_at, stack_at}
-use Rattle.call_tree.specs.Walks.{has_number, IsOnPath}
+use Rattle.call_tree.specs.Walks.{has_name_numbered, IsOnPath}
 
 pub same_bool : (a b : Bool) → (a ≡ true → b ≡ true) → (b ≡ true → a ≡ true) → a ≡ b
 same_bool true b f g = sym (f refl)
@@ -27,28 +27,28 @@ has_name-next name stack last = list_any-append (is_same_name name) stack (last 
     ∙ ap (λ b. has_name name stack || b) (or-false (is_same_name name last))
 
 -- equal numbers are equal names
-has_number-own : (names : List (List ℕ)) (n : ℕ) (numbers : List ℕ)
+has_name_numbered-own : (names : List (List ℕ)) (n : ℕ) (numbers : List ℕ)
     → n < length names → ((j : ℕ) → j < length numbers → get_or numbers j 0 < length names)
     → ((i j : ℕ) → i < length names → j < length names → name_at names i ≡ name_at names j → i ≡ j)
-    → has_number names (name_at names n) numbers ≡ list_any (nat_eq n) numbers
-has_number-own names n [] lt below unlike = refl
-has_number-own names n (m ∷ numbers) lt below unlike =
+    → has_name_numbered names (name_at names n) numbers ≡ list_any (nat_eq n) numbers
+has_name_numbered-own names n [] lt below unlike = refl
+has_name_numbered-own names n (m ∷ numbers) lt below unlike =
     let m_lt = below 0 (omega arith) in
     let here : is_same_name (name_at names n) (name_at names m) ≡ nat_eq n m = same_bool _ _
     (λ e. eq-eqb n m (unlike n m lt m_lt (same_from_is_same_name _ _ e)))
     (λ e. ap (is_same_name (name_at names n)) (ap (name_at names) (sym (eqb-true n m e)))
     ∙ is_same_name-self (name_at names n)) in
-    let rest = has_number-own names n numbers lt (λ j h. below (suc j) (omega arith)) unlike in
+    let rest = has_name_numbered-own names n numbers lt (λ j h. below (suc j) (omega arith)) unlike in
     λ i. here i || rest i
 
-has_number-grown : (names more : List (List ℕ)) (name : List ℕ) (numbers : List ℕ)
+has_name_numbered-grown : (names more : List (List ℕ)) (name : List ℕ) (numbers : List ℕ)
     → ((j : ℕ) → j < length numbers → get_or numbers j 0 < length names)
     → ((k : ℕ) → k < length names → name_at more k ≡ name_at names k)
-    → has_number more name numbers ≡ has_number names name numbers
-has_number-grown names more name [] below kept = refl
-has_number-grown names more name (m ∷ numbers) below kept =
+    → has_name_numbered more name numbers ≡ has_name_numbered names name numbers
+has_name_numbered-grown names more name [] below kept = refl
+has_name_numbered-grown names more name (m ∷ numbers) below kept =
     let here = ap (is_same_name name) (kept m (below 0 (omega arith))) in
-    let rest = has_number-grown names more name numbers (λ j h. below (suc j) (omega arith)) kept in
+    let rest = has_name_numbered-grown names more name numbers (λ j h. below (suc j) (omega arith)) kept in
     λ i. here i || rest i
 
 module _ (tree named : PlainTree) (seen : List ℕ) (frames : List (List ℕ)) (i slot number : ℕ) (lt : i < length frames)
@@ -61,11 +61,11 @@ module _ (tree named : PlainTree) (seen : List ℕ) (frames : List (List ℕ)) (
   pub stack_now : stack_at named.nodes slot ≡ take i frames
   stack_now = ap (λ ns. stack_at ns slot) nodes ∙ path.here
 
-  seen_now : (name : List ℕ) → has_number named.names name seen ≡ has_name name (take i frames)
-  seen_now name = has_number-grown tree.names named.names name seen path.below interned.kept_names ∙ path.seen_is name
+  seen_now : (name : List ℕ) → has_name_numbered named.names name seen ≡ has_name name (take i frames)
+  seen_now name = has_name_numbered-grown tree.names named.names name seen path.below interned.kept_names ∙ path.seen_is name
 
   pub there_is : list_any (nat_eq number) seen ≡ has_name (name_at named.names number) (stack_at named.nodes slot)
-  there_is = sym (has_number-own named.names number seen number_lt below_named state.unlike)
+  there_is = sym (has_name_numbered-own named.names number seen number_lt below_named state.unlike)
       ∙ seen_now (name_at named.names number)
       ∙ ap (has_name (name_at named.names number)) (sym stack_now)
 
@@ -83,7 +83,7 @@ module _ (tree named : PlainTree) (seen : List ℕ) (frames : List (List ℕ)) (
   absorbed false false f = refl
 
   after_seen : (there : Bool) → there ≡ list_any (nat_eq number) seen → (name : List ℕ)
-      → has_number named.names name (if there then seen else seen ++ number ∷ []) ≡ has_name name (take (i + 1) frames)
+      → has_name_numbered named.names name (if there then seen else seen ++ number ∷ []) ≡ has_name name (take (i + 1) frames)
   after_seen true e name = search (rules, same_from_is_same_name, stack_now, seen_now, there_is, last_frame, absorbed)
   after_seen false e name = grind (arith, common_steps, list_any-append, or-false, seen_now, last_frame)
 

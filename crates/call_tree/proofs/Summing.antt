@@ -19,7 +19,7 @@ use Rattle.call_tree.specs.declared.node.Node.{Node}
 use Rattle.call_tree.specs.declared.tree.reading.Sums.{Sums}
 use Rattle.call_tree.specs.State.{name_at, no_row, node_at, stack_at, credited}
 use Rattle.call_tree.specs.Shape.{no_node, node_rows, at, IsTree}
-use Rattle.call_tree.specs.Totals.{AreSums, IsAddable, below_with, no_sums, sums_at, sums_with}
+use Rattle.call_tree.specs.Totals.{AreSums, IsAddable, below_with, no_sums, sums_in, sums_with}
 use Rattle.call_tree.proofs.Crediting.{total_of-credited, weight_where-credited}
 use Rattle.call_tree.proofs.Shapes.{node_at-node_rows, stack_at-child, stack_at-root, length-node_rows}
 use Rattle.call_tree.proofs.Paths.{has_name-next, same_bool}
@@ -45,9 +45,9 @@ pub record AreSumsFrom
   pub some : 0 < left
   pub within : left ≤ length nodes
   pub flat : (n : ℕ)
-      → n < length names → (sums_at sums n).flat + sum_by (own_if n) (take left nodes) ≡ sum_by (own_if n) nodes
+      → n < length names → (sums_in sums n).flat + sum_by (own_if n) (take left nodes) ≡ sum_by (own_if n) nodes
   pub cum : (n : ℕ) → n < length names
-      → (sums_at sums n).cum + weight_where (has_name (name_at names n)) (take left (with_below names nodes below))
+      → (sums_in sums n).cum + weight_where (has_name (name_at names n)) (take left (with_below names nodes below))
       ≡ cumulative_weight_of (node_rows names nodes) (name_at names n)
   pub whole : total_of (take left (with_below names nodes below)) ≡ total_of (node_rows names nodes)
 
@@ -173,11 +173,11 @@ module _ (names : List (List ℕ)) (nodes : List Node) (tree : IsTree names node
         wide = ap length below_is ∙ length-replicate (length nodes) 0;
         some = tree.rooted;
         within = omega arith;
-        flat = λ n lt. let none = ap (λ s. (sums_at s n).flat) sums_are
+        flat = λ n lt. let none = ap (λ s. (sums_in s n).flat) sums_are
             ∙ ap (λ (s : Sums). s.flat) (get_or-replicate (length names) n no_sums no_sums lt) in
             let whole =
             ap (sum_by (own_if n)) (take_all (length nodes) nodes (omega arith)) in omega (arith, none, whole);
-        cum = λ n lt. let none = ap (λ s. (sums_at s n).cum) sums_are
+        cum = λ n lt. let none = ap (λ s. (sums_in s n).cum) sums_are
             ∙ ap (λ (s : Sums). s.cum) (get_or-replicate (length names) n no_sums no_sums lt) in
             let whole = ap (weight_where (has_name (name_at names n))) all in omega (arith, none, whole);
         whole = ap total_of all;
@@ -235,7 +235,7 @@ module _ (names : List (List ℕ)) (nodes : List Node) (tree : IsTree names node
     parent_fits : get_or below node.parent 0 + weight < 2 ^ 63
     parent_fits = grind (arith, common_steps, get_or-le-sum_by, links, whole_is, parent_row, length-before)
 
-    flat_fits : (sums_at sums node.name).flat + node.own < 2 ^ 63
+    flat_fits : (sums_in sums node.name).flat + node.own < 2 ^ 63
     flat_fits =
         let f = so_far.flat node.name links.1 in
         let more = sum_by_more (own_if node.name) nodes k no_node lt in
@@ -254,7 +254,7 @@ module _ (names : List (List ℕ)) (nodes : List Node) (tree : IsTree names node
         (has_name name (stack_at (node_rows names nodes) node.parent)) weight 0
     counted name = search (rules, same_from_is_same_name, split_of_bools, lt, has_is)
 
-    cum_fits : node.counts ≡ true → (sums_at sums node.name).cum + weight < 2 ^ 63
+    cum_fits : node.counts ≡ true → (sums_in sums node.name).cum + weight < 2 ^ 63
     cum_fits counts =
         let name = name_at names node.name in
         let c = so_far.cum node.name links.1 in
@@ -289,10 +289,10 @@ module _ (names : List (List ℕ)) (nodes : List Node) (tree : IsTree names node
 
     pub AreSumsFrom-next : AreSumsFrom names nodes (sums_with sums below node k) (below_with below node k) k
     AreSumsFrom-next =
-        let flat : ℕ = (sums_at sums node.name).flat + node.own in
-        let cum : ℕ = (sums_at sums node.name).cum + cond node.counts weight 0 in
+        let flat : ℕ = (sums_in sums node.name).flat + node.own in
+        let cum : ℕ = (sums_in sums node.name).cum + cond node.counts weight 0 in
         let sum : Sums = record { flat = flat; cum = cum } in
-        let here : sums_at (set sums node.name sum) node.name ≡ sum =
+        let here : sums_in (set sums node.name sum) node.name ≡ sum =
         get_or-set_same sums node.name sum no_sums (omega (arith, links.1, so_far.size)) in
         let same : nat_eq node.name node.name ≡ true = eq-eqb node.name node.name refl in
         let rows_are = next_rows in
@@ -306,8 +306,8 @@ module _ (names : List (List ℕ)) (nodes : List Node) (tree : IsTree names node
               let old = so_far.flat n n_lt in
               ⊎_elim
               (λ e.
-              let now = ap (λ m. (sums_at (set sums node.name sum) m).flat) e ∙ ap (λ s. s.flat) here in
-              let was = ap (λ m. (sums_at sums m).flat) e in
+              let now = ap (λ m. (sums_in (set sums node.name sum) m).flat) e ∙ ap (λ s. s.flat) here in
+              let was = ap (λ m. (sums_in sums m).flat) e in
               let own : own_if n node ≡ node.own =
               ap (λ b. cond b node.own 0) (ap (λ m. nat_eq m node.name) e ∙ same) in
               omega (arith, last, old, now, was, own))
@@ -326,8 +326,8 @@ module _ (names : List (List ℕ)) (nodes : List Node) (tree : IsTree names node
               (has_name name (stack_at (node_rows names nodes) node.parent)) weight 0) number in
               ⊎_elim
               (λ e.
-              let now = ap (λ m. (sums_at (set sums node.name sum) m).cum) e ∙ ap (λ s. s.cum) here in
-              let was = ap (λ m. (sums_at sums m).cum) e in
+              let now = ap (λ m. (sums_in (set sums node.name sum) m).cum) e ∙ ap (λ s. s.cum) here in
+              let was = ap (λ m. (sums_in sums m).cum) e in
               let own : cond (node.counts && nat_eq n node.name) weight 0 ≡ cond node.counts weight 0 = ap (λ b. cond
               (node.counts && b) weight 0) (ap (λ m. nat_eq m node.name) e ∙ same) ∙ and_true node.counts weight in
               omega (arith, last, old, rest, split, now, was, own))

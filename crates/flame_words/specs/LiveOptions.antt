@@ -8,13 +8,13 @@ pub record PlainOptions : Type 0 where
   pub all : Bool
   pub warm : Bool
 
--- the most sessions of a store
-abbrev pub most_sessions : ℕ
-most_sessions = 64
+-- how many sessions a store has at most
+abbrev pub store_sessions : ℕ
+store_sessions = 64
 
 -- how many workers there can be: a warm start takes one of a store's sessions
 abbrev pub most_workers : Bool → ℕ
-most_workers warm = cond warm (most_sessions - 1) most_sessions
+most_workers warm = cond warm (store_sessions - 1) store_sessions
 
 -- options with so many workers, where there can be so many
 abbrev pub options_of : ℕ → Bool → Bool → Option PlainOptions

@@ -6,12 +6,12 @@ use Prim.Native.Nat.{zero, suc}
 use Rattle.std.specs.declared.cmp.Ordering.TheVariants.{Less, Equal}
 use Rattle.std.specs.Ordering.{is_ne, nat_cmp}
 use Rattle.std.specs.Cmp.{ranks}
-use Rattle.folded_text.specs.StackOrder.{AreDigits, digits_of, front_of, number_of, rank_of, stack_text_cmp}
+use Rattle.folded_text.specs.StackOrder.{AreDigits, digits_of, front_of, with_digits, rank_of, stack_text_cmp}
 use Rattle.folded_text.proofs.StackOrder.{stack_text_cmp_total}
 
 -- numbers that begin lower are lower
 lower : (high other : ℕ) (digits others : List ℕ) → length digits ≡ length others
-    → AreDigits digits → AreDigits others → high < other → number_of high digits < number_of other others
+    → AreDigits digits → AreDigits others → high < other → with_digits high digits < with_digits other others
 lower high other [] [] same are also below = below
 lower high other [] (o ∷ others) same are also below = absurd (omega (arith, same))
 lower high other (d ∷ digits) [] same are also below = absurd (omega (arith, same))
@@ -30,7 +30,7 @@ as_long count text other = length-digits count text ∙ sym (length-digits count
 -- the lower number is that of the lower text
 pub lower_text : (count high : ℕ) (text other : List ℕ)
     → AreDigits (digits_of count text) → AreDigits (digits_of count other)
-    → number_of high (digits_of count text) < number_of high (digits_of count other) → stack_text_cmp text other ≡ Less
+    → with_digits high (digits_of count text) < with_digits high (digits_of count other) → stack_text_cmp text other ≡ Less
 lower_text zero high text other are also below = absurd (omega (arith, below))
 lower_text (suc count) high [] [] are also below = absurd (omega (arith, below))
 lower_text (suc count) high [] (b ∷ other) are also below = refl
@@ -52,7 +52,7 @@ fronts_decide text other are also apart =
 
 -- numbers that are the same have the same digits
 same_digits : (high : ℕ) (digits others : List ℕ) → length digits ≡ length others → AreDigits digits → AreDigits others
-    → number_of high digits ≡ number_of high others → digits ≡ others
+    → with_digits high digits ≡ with_digits high others → digits ≡ others
 same_digits high [] [] same are also is = refl
 same_digits high [] (o ∷ others) same are also is = absurd (omega (arith, same))
 same_digits high (d ∷ digits) [] same are also is = absurd (omega (arith, same))

@@ -32,13 +32,13 @@ abbrev pub AreDigits : List ℕ → Type 0
 AreDigits digits = AllByRecursion (λ (digit : ℕ). digit < 512) digits
 
 -- the number that digits write after those of another number
-abbrev pub number_of : ℕ → List ℕ → ℕ
-number_of high [] = high
-number_of high (digit ∷ digits) = number_of (high * 512 + digit) digits
+abbrev pub with_digits : ℕ → List ℕ → ℕ
+with_digits high [] = high
+with_digits high (digit ∷ digits) = with_digits (high * 512 + digit) digits
 
 -- the first seven bytes of a text as one number
 abbrev pub front_of : List ℕ → ℕ
-front_of text = number_of 0 (digits_of 7 text)
+front_of text = with_digits 0 (digits_of 7 text)
 
 -- the number is that of a text's first bytes, which are digits
 pub record IsFront (text : List ℕ) (front : ℕ) : Type 0 where

@@ -3,7 +3,7 @@ use Rattle.std.specs.Prelude.{◌≡◌, ◌≢◌, ℕ, ◌⊎◌, List, ◌∷
 use Rattle.pprof_profile.specs.declared.faults.ProfileFault.{ProfileFault}
 use Rattle.pprof_profile.specs.declared.faults.ProfileFault.TheVariants.{Gzip, NoMemory}
 use Rattle.pprof_profile.specs.declared.messages.Draft.{Draft}
-use Rattle.pprof_profile.specs.Reading.{Spells, IsFirstFault}
+use Rattle.pprof_profile.specs.Reading.{Spells, IsFirstFieldFault}
 use Rattle.pprof_profile.specs.Forms.{table_of}
 use Rattle.pprof_profile.specs.Messages.{no_draft, draft_form}
 use Rattle.pprof_profile.specs.Valid.{IsValidDraft, validity_fault}
@@ -25,7 +25,7 @@ pub record IsProfile (bytes : List ℕ) (draft : Draft) : Type 0 where
 -- Why the bytes spell no draft: the first fault in reading order.
 pub record IsReadingFault (bytes : List ℕ) (fault : ProfileFault) : Type 0 where
   pub plain : ¬ BeginsAsGzip bytes
-  pub first : IsFirstFault (table_of draft_form) no_draft bytes fault
+  pub first : IsFirstFieldFault (table_of draft_form) no_draft bytes fault
 
 -- The bytes spell a draft, and this is the first rule that it breaks.
 pub record SpellsInvalid (bytes : List ℕ) (fault : ProfileFault) : Type 0 where

@@ -59,7 +59,7 @@ pub record IsEndFault (bytes : List ℕ) (fault : ProfileFault) : Type 0 where
   pub faulty : IsRestFault wrong bytes
 
 -- The fields before the rest have no fault, and what begins the rest has this one.
-pub record IsFirstFault {M : Type 0} (table : Table M) (old : M) (bytes : List ℕ)
+pub record IsFirstFieldFault {M : Type 0} (table : Table M) (old : M) (bytes : List ℕ)
     (fault : ProfileFault) : Type 0 where
   pub so_far : M
   pub rest : List ℕ
@@ -69,7 +69,7 @@ pub record IsFirstFault {M : Type 0} (table : Table M) (old : M) (bytes : List �
 -- What reading the bytes makes of a message.
 abbrev pub Reads : {M : Type 0} → Table M → M → List ℕ → Result M ProfileFault → Type 0
 Reads table old bytes (Ok new) = Spells table old bytes new
-Reads table old bytes (Err fault) = IsFirstFault table old bytes fault
+Reads table old bytes (Err fault) = IsFirstFieldFault table old bytes fault
 
 -- ---- the rules for the value of a field
 
@@ -133,7 +133,7 @@ pub record IsAppended {M : Type 0} (table : Table M) (empty : M) (old : List M) 
 
 abbrev pub AddsItem : {M : Type 0} → Table M → M → List M → List ℕ → Result (List M) ProfileFault → Type 0
 AddsItem table empty old bytes (Ok new) = IsAppended table empty old bytes new
-AddsItem table empty old bytes (Err fault) = IsFirstFault table empty bytes fault
+AddsItem table empty old bytes (Err fault) = IsFirstFieldFault table empty bytes fault
 
 -- A repeated message: each field has one.
 abbrev pub AddsMessage : {M : Type 0} → Table M → M → Rule (List M)

@@ -4,7 +4,7 @@ ghost use Rattle.std.specs.Prelude.{◌≡◌, ◌≢◌, Result, Ok, Err, IfOk,
 ghost use Rattle.pprof_wire.specs.Fields.{value_of};
 ghost use Rattle.pprof_profile.specs.declared.faults.ProfileFault.{ProfileFault};
 ghost use Rattle.pprof_profile.specs.Forms.{Form, empty_of, table_of};
-ghost use Rattle.pprof_profile.specs.Reading.{Spells, IsFirstFault, SetsNumber, AddsNumbers, AddsText, AddsMessage};
+ghost use Rattle.pprof_profile.specs.Reading.{Spells, IsFirstFieldFault, SetsNumber, AddsNumbers, AddsText, AddsMessage};
 ghost use Rattle.pprof_profile.specs.Reading.{MergesMessage, IsUnpacked, IsPackedFault, KeepsRule, Reads};
 
 use crate::faults::ProfileFault;
@@ -50,7 +50,7 @@ pub(crate) fn read_onto<M: Message>(
 pub(crate) fn read_message<M: Message>(alloc: Global, bytes: &[u8]) -> Result<M, ProfileFault>
     ensures read { IfOk result (λ message. Spells (table_of M.form) (empty_of M.form) bytes.now message) }
     ensures fault { IfErr result (λ fault. fault ≢ ProfileFault.NoMemory
-        → IsFirstFault (table_of M.form) (empty_of M.form) bytes.now fault) }
+        → IsFirstFieldFault (table_of M.form) (empty_of M.form) bytes.now fault) }
 {
     let mut message = M::empty(alloc);
     read_onto(alloc, &mut message, bytes)?;

@@ -6,7 +6,7 @@ ghost use Rattle.pprof_wire.specs.Fields.{value_of};
 ghost use Rattle.pprof_profile.specs.declared.faults.ProfileFault.{ProfileFault};
 ghost use Rattle.pprof_profile.specs.Forms.{table_of};
 ghost use Rattle.pprof_profile.specs.Messages.{no_sample, sample_form};
-ghost use Rattle.pprof_profile.specs.Reading.{AddsMessage, IsAppended, IsFirstFault};
+ghost use Rattle.pprof_profile.specs.Reading.{AddsMessage, IsAppended, IsFirstFieldFault};
 
 use crate::faults::ProfileFault;
 use crate::messages::{Label, Sample};
@@ -215,7 +215,7 @@ impl Samples {
     fn read(&mut self, alloc: Global, bytes: &[u8]) -> Result<(), ProfileFault>
         ensures read { OnOk result (IsAppended (table_of sample_form) no_sample self.old bytes.now self.new) }
         ensures fault { IfErr result (λ fault. fault ≢ ProfileFault.NoMemory
-            → IsFirstFault (table_of sample_form) no_sample bytes.now fault) }
+            → IsFirstFieldFault (table_of sample_form) no_sample bytes.now fault) }
     {
         self.spare.clear();
         read_onto(alloc, &mut self.spare, bytes)?;

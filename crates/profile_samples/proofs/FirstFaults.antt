@@ -12,10 +12,10 @@ use Rattle.profile_samples.specs.declared.sampling.BatchFault.{BatchFault}
 use Rattle.profile_samples.specs.declared.sampling.BatchFault.TheVariants.{Negative, Depth, Heavy}
 use Rattle.profile_samples.specs.declared.sampling.BatchFault.TheVariants.{NoMemory}
 use Rattle.profile_samples.specs.declared.sampling.ValueChoice.{ValueChoice}
-use Rattle.profile_samples.specs.Batches.{AreStacksOf, Gives, GivesBatch, GivesOfStacks, IsBatchOf, IsFirstFault}
+use Rattle.profile_samples.specs.Batches.{AreStacksOf, Gives, GivesBatch, GivesOfStacks, IsBatchOf, IsFirstSamplesFault}
 use Rattle.profile_samples.specs.Batches.{StandsAtSample}
 use Rattle.profile_samples.specs.Samples.{HasWeights, IsSampleFault, sample_stack_of}
-use Rattle.profile_samples.proofs.SampleBatches.{AreStacksOf-same, IsBatchOf-same, IsFirstFault-batch, IsTooWide}
+use Rattle.profile_samples.proofs.SampleBatches.{AreStacksOf-same, IsBatchOf-same, IsFirstSamplesFault-batch, IsTooWide}
 use Rattle.profile_samples.proofs.SampleBatches.{as_named, faultless_among}
 use Rattle.profile_samples.proofs.SampleBatches.{memory_or_named, none_some, rows_of_choice}
 use Rattle.profile_samples.proofs.SampleRows.{AreRowsOfSamples-same, not_below, same_count, same_first}
@@ -105,19 +105,19 @@ too_wide : (most : ℕ) (draft : Draft) (choice : ValueChoice) (fault other : Ba
     → IsTooWide most draft choice fault → StandsAtSample most draft choice other → ⊥
 too_wide most draft choice fault other (count, first, is, chosen, many) b = grind (arith, common_steps, same_count)
 
-pub IsFirstFault-same : (most : ℕ) (draft : Draft) (choice : ValueChoice) (fault other : BatchFault)
-    → fault ≢ NoMemory → other ≢ NoMemory → IsFirstFault most draft choice fault
-    → IsFirstFault most draft choice other → fault ≡ other
-IsFirstFault-same most draft choice fault other named known ha hb =
+pub IsFirstSamplesFault-same : (most : ℕ) (draft : Draft) (choice : ValueChoice) (fault other : BatchFault)
+    → fault ≢ NoMemory → other ≢ NoMemory → IsFirstSamplesFault most draft choice fault
+    → IsFirstSamplesFault most draft choice other → fault ≡ other
+IsFirstSamplesFault-same most draft choice fault other named known ha hb =
     grind (arith, common_steps, same_count, one_standing, none_some, as_named, too_wide)
 
 -- ---- what is answered where there is a first fault
 
 other_fault : (most : ℕ) (draft : Draft) (choice : ValueChoice) (fault first : BatchFault)
-    → IsFirstFault most draft choice fault → first ≢ NoMemory → IsFirstFault most draft choice first
+    → IsFirstSamplesFault most draft choice fault → first ≢ NoMemory → IsFirstSamplesFault most draft choice first
     → (fault ≡ NoMemory) ⊎ (fault ≡ first)
 other_fault most draft choice fault first read some there =
-    grind (arith, common_steps, IsFirstFault-same, memory_or_named)
+    grind (arith, common_steps, IsFirstSamplesFault-same, memory_or_named)
 
 -- what is read decides what else is answered
 gives : {T B : Type 0} (most : ℕ) (draft : Draft) (choice : ValueChoice) (Is : T → Type 0) (Given : B → Type 0)
@@ -125,7 +125,7 @@ gives : {T B : Type 0} (most : ℕ) (draft : Draft) (choice : ValueChoice) (Is :
     → ((given : B) → Given given → (batch : BatchState) × (batch.width ≤ most) × IsBatchOf draft choice batch)
     → ((made : T) → Is made → (given : B) × Given given × Fits given made)
     → ((one other : B) → Given one → Given other → one ≡ other)
-    → (result : Result T BatchFault) → MatchResult result Is (λ fault. IsFirstFault most draft choice fault)
+    → (result : Result T BatchFault) → MatchResult result Is (λ fault. IsFirstSamplesFault most draft choice fault)
     → Gives most draft choice Is Given Fits result
 gives {B = B} most draft choice Is Given Fits batch_of own same (Ok made) read =
     let (given, this, fits) = own made read in
@@ -133,17 +133,17 @@ gives {B = B} most draft choice Is Given Fits batch_of own same (Ok made) read =
     record {
       read = read;
       accepted = λ other there. subst (λ (b : B). Fits b made) (same given other this there) fits;
-      every_fault = λ first some there. some (IsFirstFault-batch most draft choice batch first few is there);
+      every_fault = λ first some there. some (IsFirstSamplesFault-batch most draft choice batch first few is there);
     }
 gives most draft choice Is Given Fits batch_of own same (Err fault) read = record {
   read = read;
   accepted = λ given there. let (batch, few, is) = batch_of given there in
-      IsFirstFault-batch most draft choice batch fault few is read;
+      IsFirstSamplesFault-batch most draft choice batch fault few is read;
   every_fault = λ first some there. other_fault most draft choice fault first read some there;
 }
 
 pub gives_batch : (draft : Draft) (choice : ValueChoice) (result : Result BatchState BatchFault)
-    → MatchResult result (IsBatchOf draft choice) (λ fault. IsFirstFault 4 draft choice fault)
+    → MatchResult result (IsBatchOf draft choice) (λ fault. IsFirstSamplesFault 4 draft choice fault)
     → GivesBatch draft choice result
 gives_batch draft choice =
     gives 4 draft choice (IsBatchOf draft choice) (IsBatchOf draft choice) (λ batch made. made ≡ batch)
@@ -152,7 +152,7 @@ gives_batch draft choice =
 pub gives_of_stacks : {T : Type 0} (draft : Draft) (choice : ValueChoice) (Is : T → Type 0)
     (Fits : List WeightedStack → T → Type 0)
     → ((made : T) → Is made → (rows : List WeightedStack) × AreStacksOf draft choice rows × Fits rows made)
-    → (result : Result T BatchFault) → MatchResult result Is (λ fault. IsFirstFault 1 draft choice fault)
+    → (result : Result T BatchFault) → MatchResult result Is (λ fault. IsFirstSamplesFault 1 draft choice fault)
     → GivesOfStacks draft choice Is Fits result
 gives_of_stacks draft choice Is Fits own =
     gives 1 draft choice Is (AreStacksOf draft choice) Fits (λ rows this. (single_batch rows, omega arith, this)) own

@@ -36,7 +36,7 @@ use Rattle.name_counts.specs.TextTables.{names_at, number_in, with_text, with_te
 use Rattle.name_counts.proofs.TallyLaws.{has_number-push}
 use Rattle.profile_samples.specs.NameNumbers.{AreFrameNumbers, AreFunctionNumbers, address_names, address_of}
 use Rattle.profile_samples.specs.NameNumbers.{frame_names, is_name_of, lacks_name, names_function, needs_address}
-use Rattle.profile_samples.specs.NameNumbers.{string_names_from, given, number_at, number_by, number_of}
+use Rattle.profile_samples.specs.NameNumbers.{string_names_from, given, number_at, number_by, name_number}
 use Rattle.profile_samples.specs.NameNumbers.{numbers_of, numbers_of_id, once_of, string_names, string_numbers}
 use Rattle.profile_samples.specs.NameNumbers.{with_number, with_numbers}
 use Rattle.profile_samples.proofs.ExportLaws.{AllStand, number_in-withs, stands_in, with_text-own, with_texts-own}
@@ -105,7 +105,7 @@ pub record AreNamedSoFar (draft : Draft) (names : List (List ℕ)) (numbers : Li
     (rest : List (Option (List ℕ))) : Type 0 where
   pub front : with_texts (with_texts names (given rest)) (given (address_names draft)) ≡ frame_names draft
   pub each : All IsName names
-  pub numbers_are : numbers ++ map (option_map (number_of draft)) rest ≡ string_numbers draft
+  pub numbers_are : numbers ++ map (option_map (name_number draft)) rest ≡ string_numbers draft
 
 pub string_named : (draft : Draft) (names new : List (List ℕ)) (numbers next : List (Option ℕ))
     (name : Option (List ℕ)) (number : Option ℕ) (rest : List (Option (List ℕ)))
@@ -150,10 +150,10 @@ name_at draft index named = name_from draft.functions 0 draft.strings index
 string_number : (draft : Draft) (index : ℤ)
     → ((at : ℕ) → index ≡ pos at → names_function draft.functions at ≡ true)
     → number_at (string_numbers draft) index
-    ≡ option_map (number_of draft) (cleaned_name_of (string_at draft.strings index))
+    ≡ option_map (name_number draft) (cleaned_name_of (string_at draft.strings index))
 string_number draft (pos index) named =
-    lists.get_or-map (option_map (number_of draft)) (string_names draft) index None
-    ∙ ap (option_map (number_of draft)) (name_at draft index (named index refl))
+    lists.get_or-map (option_map (name_number draft)) (string_names draft) index None
+    ∙ ap (option_map (name_number draft)) (name_at draft index (named index refl))
 string_number draft (negsuc index) named = refl
 
 option_or-map : (f : List ℕ → ℕ) (a b : Option (List ℕ))
@@ -177,17 +177,17 @@ system_name_is : (draft : Draft) (function : Function) (at : ℕ)
 system_name_is draft function at named is = named at (grind (arith, common_steps, eq-eqb, or_right))
 
 number_by-name : (draft : Draft) (function : Function) → IsFunctionOf draft function
-    → number_by (string_numbers draft) function ≡ option_map (number_of draft) (function_name draft.strings function)
+    → number_by (string_numbers draft) function ≡ option_map (name_number draft) (function_name draft.strings function)
 number_by-name draft function named =
     let name = string_number draft function.name (λ at. name_is draft function at named) in
     let system_name = string_number draft function.system_name (λ at. system_name_is draft function at named) in
     grind (arith, common_steps, name, system_name, option_or-map)
 
 pub function_numbers_are : (draft : Draft) → map (number_by (string_numbers draft)) draft.functions
-    ≡ map (λ (function : Function). option_map (number_of draft) (function_name draft.strings function)) draft.functions
+    ≡ map (λ (function : Function). option_map (name_number draft) (function_name draft.strings function)) draft.functions
 function_numbers_are draft =
     map_agreeing (number_by (string_numbers draft))
-    (λ (function : Function). option_map (number_of draft) (function_name draft.strings function)) draft.functions
+    (λ (function : Function). option_map (name_number draft) (function_name draft.strings function)) draft.functions
     (All-weaker (IsFunctionOf draft) _ (number_by-name draft) draft.functions (each_is draft))
 
 -- ---- the names stand among those that are numbered
@@ -355,7 +355,7 @@ numbered names frame frames all = record {
 location_numbered : (draft : Draft) (address : ℕ) (lines : List Line)
     → AllStand (frame_names draft) (frames_from draft.strings draft.functions address lines)
     → AreNumbersOf (frame_names draft) (frames_from draft.strings draft.functions address lines)
-    (map (number_of draft) (frames_from draft.strings draft.functions address lines))
+    (map (name_number draft) (frames_from draft.strings draft.functions address lines))
 location_numbered draft address [] all = numbered (frame_names draft) (address_name address) [] all
 location_numbered draft address (line ∷ lines) all =
     numbered (frame_names draft) (line_name draft.strings draft.functions address line)
@@ -401,18 +401,18 @@ found_names draft id found is =
 pub function_number : (draft : Draft) (ids : List ℕ) (numbers : List (Option ℕ)) (id : ℕ) (found : Option ℕ)
     → AreFunctionNumbers draft ids numbers
     → MatchOption found ((at : ℕ) → slice_get ids at ≢ Some id) (λ at. slice_get ids at ≡ Some id)
-    → option_map (number_of draft) (named_by draft.strings (item_with (λ function. function.id) id draft.functions))
+    → option_map (name_number draft) (named_by draft.strings (item_with (λ function. function.id) id draft.functions))
     ≡ option_and_then (λ number. number) (option_and_then (λ at. slice_get numbers at) found)
 function_number draft ids numbers id found this h =
-    ap (λ function. option_map (number_of draft) (named_by draft.strings function))
+    ap (λ function. option_map (name_number draft) (named_by draft.strings function))
     (item_with-found (λ function. function.id) draft.functions ids id found this.ids_are this.single h)
-    ∙ elim found as (λ f. option_map (number_of draft) (named_by draft.strings
+    ∙ elim found as (λ f. option_map (name_number draft) (named_by draft.strings
     (option_and_then (λ at. slice_get draft.functions at) f))
     ≡ option_and_then (λ number. number) (option_and_then (λ at. slice_get numbers at) f)) [
       | None ↦ refl
       | Some at ↦ rw (this.numbers_are, slice_get-map _ draft.functions at)
-          (elim (slice_get draft.functions at) as (λ f. option_map (number_of draft) (named_by draft.strings f)
-          ≡ option_and_then (λ number. number) (option_map (λ (function : Function). option_map (number_of draft)
+          (elim (slice_get draft.functions at) as (λ f. option_map (name_number draft) (named_by draft.strings f)
+          ≡ option_and_then (λ number. number) (option_map (λ (function : Function). option_map (name_number draft)
           (function_name draft.strings function)) f)) [ None ↦ refl | Some function ↦ refl ])
     ]
 
@@ -431,14 +431,14 @@ numbers_at draft ids frames once names id found this h =
 
 -- the number of a line's name
 abbrev pub line_number : Draft → ℕ → Line → ℕ
-line_number draft address line = number_of draft (line_name draft.strings draft.functions address line)
+line_number draft address line = name_number draft (line_name draft.strings draft.functions address line)
 
 -- the numbers of lines, where there are some
 pub numbers_of_lines : (draft : Draft) (address : ℕ) (lines : List Line) → 0 < length lines → map
-    (line_number draft address) lines ≡ map (number_of draft) (frames_from draft.strings draft.functions address lines)
+    (line_number draft address) lines ≡ map (name_number draft) (frames_from draft.strings draft.functions address lines)
 numbers_of_lines draft address [] some = absurd (omega (arith, some))
 numbers_of_lines draft address (line ∷ lines) some =
-    sym (map-map (number_of draft) (line_name draft.strings draft.functions address) (line ∷ lines))
+    sym (map-map (name_number draft) (line_name draft.strings draft.functions address) (line ∷ lines))
 
 -- ---- the frames of ids, one by one
 
@@ -516,12 +516,12 @@ or_else_numbered f None name number h = h refl
 
 -- the number of a line's name, by that of its address
 pub line_numbered : (draft : Draft) (address number : ℕ) (lines : List Line) (index : ℕ) (none : Line)
-    → index < length lines → (needs_address draft lines ≡ true → number ≡ number_of draft (address_name address))
-    → unwrap_or (option_map (number_of draft) (named_by draft.strings (item_with (λ function. function.id)
+    → index < length lines → (needs_address draft lines ≡ true → number ≡ name_number draft (address_name address))
+    → unwrap_or (option_map (name_number draft) (named_by draft.strings (item_with (λ function. function.id)
     (get_or lines index none).function_id draft.functions))) number
     ≡ line_number draft address (get_or lines index none)
 line_numbered draft address number lines index none lt h =
-    or_else_numbered (number_of draft) (named_by draft.strings (item_with (λ function. function.id)
+    or_else_numbered (name_number draft) (named_by draft.strings (item_with (λ function. function.id)
     (get_or lines index none).function_id draft.functions)) (address_name address) number
     (λ lacks. h (lacking draft lines index none lt lacks))
 

@@ -22,7 +22,7 @@ use Rattle.profile_samples.specs.declared.sampling.BatchFault.{BatchFault}
 use Rattle.profile_samples.specs.declared.sampling.BatchFault.TheVariants as faults
 use Rattle.profile_samples.specs.declared.sampling.ValueChoice.{ValueChoice}
 use Rattle.profile_samples.specs.Samples.{IsRowOfSample, IsSampleFault, chosen_types_of}
-use Rattle.profile_samples.specs.Batches.{AreRowsOfSamples, AreStacksOf, IsBatchOf, IsFirstFault, IsStacksWorkFault}
+use Rattle.profile_samples.specs.Batches.{AreRowsOfSamples, AreStacksOf, IsBatchOf, IsFirstSamplesFault, IsStacksWorkFault}
 use Rattle.profile_samples.specs.Batches.{StandsAtSample}
 use Rattle.profile_samples.proofs.SampleRows.{AreRowsOfSamples-push, AreRowsOfSamples-same, cut_at, faultless}
 use Rattle.profile_samples.proofs.SampleRows.{one_value_room, same_count, same_first}
@@ -84,7 +84,7 @@ IsNamed most draft choice fault = ((fault ≡ faults.NoValue) × (chosen_types_o
 
 -- a first fault is `NoMemory` or one of these
 pub as_named : (most : ℕ) (draft : Draft) (choice : ValueChoice) (fault : BatchFault)
-    → fault ≢ faults.NoMemory → IsFirstFault most draft choice fault → IsNamed most draft choice fault
+    → fault ≢ faults.NoMemory → IsFirstSamplesFault most draft choice fault → IsNamed most draft choice fault
 as_named most draft choice faults.NoValue named h = inl (refl, h)
 as_named most draft choice (faults.Width count) named (first, is, many) = inr (inl (count, first, refl, is, many))
 as_named most draft choice faults.NoMemory named h = absurd (named refl)
@@ -95,10 +95,10 @@ pub memory_or_named : (fault : BatchFault) → (fault ≡ faults.NoMemory) ⊎ (
 memory_or_named faults.NoMemory = inl refl
 memory_or_named fault = inr (λ e. cc)
 
-pub IsFirstFault-batch : (most : ℕ) (draft : Draft) (choice : ValueChoice) (batch : BatchState) (fault : BatchFault)
-    → batch.width ≤ most → IsBatchOf draft choice batch → IsFirstFault most draft choice fault
+pub IsFirstSamplesFault-batch : (most : ℕ) (draft : Draft) (choice : ValueChoice) (batch : BatchState) (fault : BatchFault)
+    → batch.width ≤ most → IsBatchOf draft choice batch → IsFirstSamplesFault most draft choice fault
     → fault ≡ faults.NoMemory
-IsFirstFault-batch most draft choice batch fault few this h =
+IsFirstSamplesFault-batch most draft choice batch fault few this h =
     elim (memory_or_named fault) [
       | inl late ↦ late
       | inr named ↦ elim (as_named most draft choice fault named h) [
@@ -118,7 +118,7 @@ IsBatchOf-same draft choice batch other one two =
 
 -- what stands at a sample is a profile's first fault
 stands_first : (most : ℕ) (draft : Draft) (choice : ValueChoice) (fault : BatchFault)
-    → StandsAtSample most draft choice fault → IsFirstFault most draft choice fault
+    → StandsAtSample most draft choice fault → IsFirstSamplesFault most draft choice fault
 stands_first most draft choice faults.NoValue this = absurd this.there
 stands_first most draft choice (faults.Width count) this = absurd this.there
 stands_first most draft choice faults.NoMemory this = (this.first, this.batch.width, this.is_chosen, this.few)
@@ -127,25 +127,25 @@ stands_first most draft choice fault this = this
 -- memory runs out only where there are few values
 pub memory_first : {T : Type 0} (Is : T → Type 0) (most : ℕ) (draft : Draft) (choice : ValueChoice) (first width : ℕ)
     (outcome : Result T BatchFault) → chosen_types_of draft choice ≡ Some (first, width) → width ≤ most
-    → outcome ≡ Err faults.NoMemory → MatchResult outcome Is (λ fault. IsFirstFault most draft choice fault)
+    → outcome ≡ Err faults.NoMemory → MatchResult outcome Is (λ fault. IsFirstSamplesFault most draft choice fault)
 memory_first Is most draft choice first width outcome is few late = rw late (first, width, is, few)
 
 pub first_of_standing : {T : Type 0} (P : T → Type 0) (most : ℕ) (draft : Draft) (choice : ValueChoice)
     (outcome : Result T BatchFault) → MatchResult outcome P (λ fault. StandsAtSample most draft choice fault)
-    → MatchResult outcome P (λ fault. IsFirstFault most draft choice fault)
+    → MatchResult outcome P (λ fault. IsFirstSamplesFault most draft choice fault)
 first_of_standing P most draft choice outcome this =
     MatchResult-weaker outcome this (λ made p. p) (stands_first most draft choice)
 
 -- and so is what work on rows of one value ends with
 work_first : (draft : Draft) (choice : ValueChoice) (fault : BatchFault)
-    → IsStacksWorkFault draft choice fault → IsFirstFault 1 draft choice fault
+    → IsStacksWorkFault draft choice fault → IsFirstSamplesFault 1 draft choice fault
 work_first draft choice fault (inl there) = stands_first 1 draft choice fault there
 work_first draft choice fault (inr (late, rows, sampled)) =
-    subst (IsFirstFault 1 draft choice) (sym late) (sampled.first, 1, sampled.is_chosen, omega arith)
+    subst (IsFirstSamplesFault 1 draft choice) (sym late) (sampled.first, 1, sampled.is_chosen, omega arith)
 
 pub first_of_work : {T : Type 0} (P : T → Type 0) (draft : Draft) (choice : ValueChoice) (outcome : Result T BatchFault)
     → MatchResult outcome P (λ fault. IsStacksWorkFault draft choice fault)
-    → MatchResult outcome P (λ fault. IsFirstFault 1 draft choice fault)
+    → MatchResult outcome P (λ fault. IsFirstSamplesFault 1 draft choice fault)
 first_of_work P draft choice outcome this = MatchResult-weaker outcome this (λ made p. p) (work_first draft choice)
 
 -- ---- rows of one value

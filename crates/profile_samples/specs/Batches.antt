@@ -5,6 +5,7 @@ use Rattle.std.specs.Prelude.{MatchResult}
 use Rattle.pprof_profile.specs.declared.messages.Draft.{Draft}
 use Rattle.pprof_profile.specs.declared.messages.Sample.{Sample}
 use Rattle.profile_rows.specs.declared.weighted_stacks.WeightedStack.{WeightedStack}
+use Rattle.profile_rows.specs.Limits.{most_values}
 use Rattle.profile_rows.specs.Values.{AreTotals, BatchState, IsBatch, Row, single_batch}
 use Rattle.profile_samples.specs.declared.sampling.BatchFault.{BatchFault}
 use Rattle.profile_samples.specs.declared.sampling.BatchFault.TheVariants.{NoValue, Width, Negative, Depth, Heavy}
@@ -52,23 +53,23 @@ pub record StandsAtSample (most : ℕ) (draft : Draft) (choice : ValueChoice) (f
 
 -- Why a profile gives no batch of so many values at most: no value to take, or more than these; else the first sample
 -- with a fault. Memory runs out only where there aren't more.
-abbrev pub IsFirstFault : ℕ → Draft → ValueChoice → BatchFault → Type 0
-IsFirstFault most draft choice NoValue = chosen_types_of draft choice ≡ None
-IsFirstFault most draft choice (Width count) = (first : ℕ) × (chosen_types_of draft choice ≡ Some (first, count))
+abbrev pub IsFirstSamplesFault : ℕ → Draft → ValueChoice → BatchFault → Type 0
+IsFirstSamplesFault most draft choice NoValue = chosen_types_of draft choice ≡ None
+IsFirstSamplesFault most draft choice (Width count) = (first : ℕ) × (chosen_types_of draft choice ≡ Some (first, count))
     × (most < count)
-IsFirstFault most draft choice (Negative at) = StandsAtSample most draft choice (Negative at)
-IsFirstFault most draft choice (Depth at) = StandsAtSample most draft choice (Depth at)
-IsFirstFault most draft choice (Heavy at) = StandsAtSample most draft choice (Heavy at)
-IsFirstFault most draft choice NoMemory = (first : ℕ) × (width : ℕ)
+IsFirstSamplesFault most draft choice (Negative at) = StandsAtSample most draft choice (Negative at)
+IsFirstSamplesFault most draft choice (Depth at) = StandsAtSample most draft choice (Depth at)
+IsFirstSamplesFault most draft choice (Heavy at) = StandsAtSample most draft choice (Heavy at)
+IsFirstSamplesFault most draft choice NoMemory = (first : ℕ) × (width : ℕ)
     × (chosen_types_of draft choice ≡ Some (first, width)) × (width ≤ most)
 
 -- why a profile gives no batch
 abbrev pub IsFirstBatchFault : Draft → ValueChoice → BatchFault → Type 0
-IsFirstBatchFault draft choice fault = IsFirstFault 4 draft choice fault
+IsFirstBatchFault draft choice fault = IsFirstSamplesFault most_values draft choice fault
 
 -- why a profile gives no rows of one value
 abbrev pub IsFirstStacksFault : Draft → ValueChoice → BatchFault → Type 0
-IsFirstStacksFault draft choice fault = IsFirstFault 1 draft choice fault
+IsFirstStacksFault draft choice fault = IsFirstSamplesFault 1 draft choice fault
 
 -- Why work on a profile's rows of one value has no result, once it has begun: a fault stands at a sample, or memory
 -- runs out after the last one.
@@ -82,15 +83,15 @@ IsStacksWorkFault draft choice fault = StandsAtSample 1 draft choice fault
 -- give this, what it makes fits that, unless memory runs out; and where they have a fault, it is that one.
 pub record Gives {T B : Type 0} (most : ℕ) (draft : Draft) (choice : ValueChoice) (Is : T → Type 0)
     (Given : B → Type 0) (Fits : B → T → Type 0) (result : Result T BatchFault) : Type 0 where
-  pub read : MatchResult result Is (λ fault. IsFirstFault most draft choice fault)
+  pub read : MatchResult result Is (λ fault. IsFirstSamplesFault most draft choice fault)
   pub accepted : (given : B) → Given given → MatchResult result (Fits given) (λ fault. fault ≡ NoMemory)
-  pub every_fault : (first : BatchFault) → first ≢ NoMemory → IsFirstFault most draft choice first
+  pub every_fault : (first : BatchFault) → first ≢ NoMemory → IsFirstSamplesFault most draft choice first
       → MatchResult result (λ made. ⊥) (λ fault. (fault ≡ NoMemory) ⊎ (fault ≡ first))
 
 -- the batch of a profile's samples
 abbrev pub GivesBatch : Draft → ValueChoice → Result BatchState BatchFault → Type 0
 GivesBatch draft choice result =
-    Gives 4 draft choice (IsBatchOf draft choice) (IsBatchOf draft choice) (λ batch made. made ≡ batch) result
+    Gives most_values draft choice (IsBatchOf draft choice) (IsBatchOf draft choice) (λ batch made. made ≡ batch) result
 
 -- what is to fit a profile's rows of one value
 abbrev pub GivesOfStacks : {T : Type 0} → Draft → ValueChoice → (T → Type 0) → (List WeightedStack → T → Type 0)

@@ -75,12 +75,12 @@ abbrev pub frame_names : Draft → List (List ℕ)
 frame_names draft = with_texts (with_texts [] (given (string_names draft))) (given (address_names draft))
 
 -- a name's number is where it stands among them
-abbrev pub number_of : Draft → List ℕ → ℕ
-number_of draft name = number_in (frame_names draft) name
+abbrev pub name_number : Draft → List ℕ → ℕ
+name_number draft name = number_in (frame_names draft) name
 
 -- the number of the name of each string, where it has one
 abbrev pub string_numbers : Draft → List (Option ℕ)
-string_numbers draft = map (option_map (number_of draft)) (string_names draft)
+string_numbers draft = map (option_map (name_number draft)) (string_names draft)
 
 -- the number at an index of strings; where there is no string it has none
 abbrev pub number_at : List (Option ℕ) → ℤ → Option ℕ
@@ -96,13 +96,13 @@ pub record AreFunctionNumbers (draft : Draft) (ids : List ℕ) (numbers : List (
   pub ids_are : ids ≡ function_ids draft
   pub single : has_double ids ≡ false
   pub numbers_are : numbers
-      ≡ map (λ function. option_map (number_of draft) (function_name draft.strings function)) draft.functions
+      ≡ map (λ function. option_map (name_number draft) (function_name draft.strings function)) draft.functions
 
 -- ---- the frames of locations
 
 -- the numbers of the names of a location's frames, leaf first
 abbrev pub numbers_of : Draft → Location → List ℕ
-numbers_of draft location = map (number_of draft) (location_frames draft location)
+numbers_of draft location = map (name_number draft) (location_frames draft location)
 
 -- a number that is there isn't added again
 abbrev pub with_number : List ℕ → ℕ → List ℕ

@@ -4,7 +4,7 @@ ghost use Rattle.std.specs.Prelude.{◌≡◌, IfOk, true};
 ghost use Rattle.std.specs.Option.{option_map};
 ghost use Rattle.pprof_profile.specs.Valid.{IsValidDraft};
 ghost use Rattle.profile_samples.specs.Samples.{address_name, item_with, named_by};
-ghost use Rattle.profile_samples.specs.NameNumbers.{address_of, needs_address, number_at, number_by, number_of};
+ghost use Rattle.profile_samples.specs.NameNumbers.{address_of, needs_address, name_number, number_at, number_by};
 ghost use Rattle.profile_samples.specs.NameNumbers.{numbers_of, string_numbers};
 
 use crate::id_index::IdIndex;
@@ -76,7 +76,7 @@ impl<'a> FunctionNumbers<'a> {
 
     /// The number of the name of the function that an id names, where it has one.
     fn number_of(&self, id: u64) -> Option<usize>
-        ensures { result ≡ option_map (number_of self.now)
+        ensures { result ≡ option_map (name_number self.now)
             (named_by self.now.strings (item_with (λ function. function.id) id self.now.functions)) }
     {
         *self.numbers.get(self.indices.find(id)?)?
@@ -114,7 +114,7 @@ impl<'a> FunctionNumbers<'a> {
         address: usize,
     ) -> Result<Vec<usize>, AllocError>
         requires { needs_address self.now location.now.lines ≡ true
-            → address ≡ number_of self.now (address_name location.now.address) }
+            → address ≡ name_number self.now (address_name location.now.address) }
         ensures { IfOk result (λ numbers. numbers.items ≡ numbers_of self.now location.now) }
     {
         let lines = location.lines.as_slice();

@@ -4,7 +4,7 @@ ghost use Rattle.std.specs.Prelude.{◌≡◌, ◌∷◌, [], ◌^◌, ◌<◌, 
 ghost use Rattle.std.specs.List.{position};
 ghost use Rattle.pprof_profile.specs.declared.messages.ValueType.{ValueType};
 ghost use Rattle.profile_samples.specs.declared.sampling.ValueChoice.{ValueChoice};
-ghost use Rattle.profile_samples.specs.Batches.{IsFirstFault, IsFirstStacksFault};
+ghost use Rattle.profile_samples.specs.Batches.{IsFirstSamplesFault, IsFirstStacksFault};
 ghost use Rattle.profile_samples.specs.Samples.{AreChosen, IsSampleFault, IsValueFault, IsWeightAfter, chosen_types_of};
 ghost use Rattle.profile_samples.specs.Samples.{default_type, type_named};
 ghost use Rattle.profile_samples.specs.EqualStrings.{equal_at, equal_strings};
@@ -149,7 +149,7 @@ pub(crate) fn chosen_values(
     requires few { most ≤ MAX_WIDTH }
     ensures { MatchResult result
         (λ chosen. AreChosen most draft.now choice.entry chosen.first chosen.width)
-        (λ fault. IsFirstFault most draft.now choice.entry fault) }
+        (λ fault. IsFirstSamplesFault most draft.now choice.entry fault) }
 {
     let (first, count) = match choice {
         ValueChoice::All => (Some(0), draft.sample_types.len()),

@@ -6,7 +6,7 @@ use Rattle.std.specs.List.{common_prefix_len}
 use Rattle.std.specs.Ordering.{eq_by_cmp}
 use Rattle.std.proofs.lemmas.List.Sums.{common_prefix_len-le}
 use Rattle.profile_rows.specs.Names.{name_cmp}
-use Rattle.flame_report.proofs.RowSums.{stack_at-get, known_at-back}
+use Rattle.flame_report.proofs.RowSums.{stack_in-get, known_at-back}
 use Rattle.flame_report.proofs.layout.shapes_of.Goals as goal
 
 -- frames share what their texts do
@@ -21,4 +21,4 @@ pub overflow_add-known : goal.overflow_add-known
 overflow_add-known c = grind (arith, common_steps, common_prefix_len-le)
 
 pub loop-at-preserved : goal.loop-at-preserved
-loop-at-preserved c = grind (arith, common_steps, shared_texts, stack_at-get, known_at-back)
+loop-at-preserved c = grind (arith, common_steps, shared_texts, stack_in-get, known_at-back)

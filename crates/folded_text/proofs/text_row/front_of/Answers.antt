@@ -1,6 +1,6 @@
 -- The digits are those of the text, one after the other.
 use Rattle.std.proofs.Common.{◌≡◌, [], ◌∷◌, ap, arith, rules, subst, sym}
-use Rattle.folded_text.specs.StackOrder.{AreDigits, digits_of, number_of}
+use Rattle.folded_text.specs.StackOrder.{AreDigits, digits_of, with_digits}
 use Rattle.folded_text.proofs.text_row.front_of.Goals as goal
 
 seven : (c : goal.After-first_rank-seventh) → digits_of 7 c.args.text.now ≡ c.first_rank-first.result.0
@@ -20,6 +20,6 @@ seven c =
 
 pub returns : goal.returns
 returns c = record {
-  front_is = omega (arith, ap (number_of 0) (seven c));
+  front_is = omega (arith, ap (with_digits 0) (seven c));
   digits = subst AreDigits (sym (seven c)) (search rules);
 }

@@ -7,7 +7,7 @@ use Rattle.pprof_profile.specs.declared.messages.Draft.{Draft}
 use Rattle.pprof_profile.specs.declared.messages.Location.{Location}
 use Rattle.profile_rows.specs.Names.{IsName}
 use Rattle.name_counts.specs.TextTables.{number_in, with_texts}
-use Rattle.profile_samples.specs.NameNumbers.{address_of, frame_names, given, number_of}
+use Rattle.profile_samples.specs.NameNumbers.{address_of, frame_names, given, name_number}
 use Rattle.profile_samples.proofs.FrameNumbers.{name_put, named_address, number_kept, texts_all}
 use Rattle.profile_samples.proofs.name_numbers.all_frames.Goals as goal
 
@@ -17,7 +17,7 @@ next : (draft : Draft) (names new : List (List ℕ)) (locations : List Location)
     → new ≡ with_texts names (given (address_of draft location ∷ []))
     → ((more : List (List ℕ)) → number ≡ option_map (number_in (with_texts new more)) (address_of draft location))
     → (with_texts new (given (map (address_of draft) (drop (at + 1) locations))) ≡ frame_names draft)
-    × (number ≡ option_map (number_of draft) (address_of draft location))
+    × (number ≡ option_map (name_number draft) (address_of draft location))
 next draft names new locations at location number lt is before new_is numbered =
     let rest = map (address_of draft) (drop (at + 1) locations) in
     let front = name_put names new [] (frame_names draft) (address_of draft location) rest new_is

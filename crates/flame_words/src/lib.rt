@@ -2,7 +2,6 @@
 #![tactic(auto)]
 
 mod command;
-mod help;
 mod live_options;
 mod options;
 mod request;

@@ -62,7 +62,8 @@ module _ (tree named : PlainTree) (seen : List ℕ) (frames : List (List ℕ)) (
   stack_now = ap (λ ns. stack_at ns slot) nodes ∙ path.here
 
   seen_now : (name : List ℕ) → has_name_numbered named.names name seen ≡ has_name name (take i frames)
-  seen_now name = has_name_numbered-grown tree.names named.names name seen path.below interned.kept_names ∙ path.seen_is name
+  seen_now name = has_name_numbered-grown tree.names named.names name seen path.below interned.kept_names
+      ∙ path.seen_is name
 
   pub there_is : list_any (nat_eq number) seen ≡ has_name (name_at named.names number) (stack_at named.nodes slot)
   there_is = sym (has_name_numbered-own named.names number seen number_lt below_named state.unlike)
@@ -83,7 +84,8 @@ module _ (tree named : PlainTree) (seen : List ℕ) (frames : List (List ℕ)) (
   absorbed false false f = refl
 
   after_seen : (there : Bool) → there ≡ list_any (nat_eq number) seen → (name : List ℕ)
-      → has_name_numbered named.names name (if there then seen else seen ++ number ∷ []) ≡ has_name name (take (i + 1) frames)
+      → has_name_numbered named.names name (if there then seen else seen ++ number ∷ [])
+      ≡ has_name name (take (i + 1) frames)
   after_seen true e name = search (rules, same_from_is_same_name, stack_now, seen_now, there_is, last_frame, absorbed)
   after_seen false e name = grind (arith, common_steps, list_any-append, or-false, seen_now, last_frame)
 

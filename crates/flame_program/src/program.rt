@@ -38,7 +38,13 @@ pub fn run<'a, T: Threads + Wait + RandomSource + Sync, P: Progress, R: Read, W:
 }
 
 /// How the run ends.
-pub(crate) fn outcome_of<'a, T: Threads + Wait + RandomSource + Sync, P: Progress, R: Read, W: Write>(
+pub(crate) fn outcome_of<
+    'a,
+    T: Threads + Wait + RandomSource + Sync,
+    P: Progress,
+    R: Read,
+    W: Write,
+>(
     rt: &T,
     alloc: Global,
     progress: &P,

@@ -30,7 +30,8 @@ as_long count text other = length-digits count text ∙ sym (length-digits count
 -- the lower number is that of the lower text
 pub lower_text : (count high : ℕ) (text other : List ℕ)
     → AreDigits (digits_of count text) → AreDigits (digits_of count other)
-    → with_digits high (digits_of count text) < with_digits high (digits_of count other) → stack_text_cmp text other ≡ Less
+    → with_digits high (digits_of count text) < with_digits high (digits_of count other)
+    → stack_text_cmp text other ≡ Less
 lower_text zero high text other are also below = absurd (omega (arith, below))
 lower_text (suc count) high [] [] are also below = absurd (omega (arith, below))
 lower_text (suc count) high [] (b ∷ other) are also below = refl

@@ -93,7 +93,8 @@ IsFittingFault earlier number depth weight (NotUtf8 at) = ⊥
 IsFittingFault earlier number depth weight (NoCount at) = ⊥
 IsFittingFault earlier number depth weight (Count at) = ⊥
 IsFittingFault earlier number depth weight (Depth at) = (at ≡ number) × (most_frames < depth)
-IsFittingFault earlier number depth weight (Heavy at) = (at ≡ number) × (depth ≤ most_frames) × (2 ^ 63 ≤ earlier + weight)
+IsFittingFault earlier number depth weight (Heavy at) = (at ≡ number) × (depth ≤ most_frames)
+    × (2 ^ 63 ≤ earlier + weight)
 IsFittingFault earlier number depth weight NoMemory = ⊥
 
 -- Why a line, which isn't empty, adds no row to rows of the weight `earlier`. Each case says that the ones before it

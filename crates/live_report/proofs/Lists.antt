@@ -1,6 +1,7 @@
 -- What operations of lists weigh, as the lists grow.
 use Rattle.std.proofs.lemmas.Grind.{common_steps}
-use Rattle.std.proofs.Common.{ℕ, zero, suc, ◌≡◌, ◌<◌, ◌+◌, ◌*◌, List, [], ◌∷◌, ◌++◌, length, get_or, set, map, Option, None}
+use Rattle.std.proofs.Common.{ℕ, zero, suc, ◌≡◌, ◌<◌, ◌+◌, ◌*◌, List, [], ◌∷◌, ◌++◌, length, get_or, set, map}
+use Rattle.std.proofs.Common.{Option, None}
 use Rattle.std.proofs.Common.{ap, sym, subst, ◌∙◌, refl, arith}
 use Rattle.std.specs.Prelude.{MatchOption, replicate, sum_by}
 use Rattle.std.proofs.lemmas.List.{append_assoc, get_or-map, length-map, map_push}
@@ -21,12 +22,15 @@ pub weigh-push : (weight : PlainOp → ℕ) (lists : List (List PlainOp)) (k : �
 weigh-push weight lists k old op lt is =
     grind (arith, common_steps, sum_by_push, sum_by-set (sum_by weight) lists k (old ++ op ∷ []) [] lt)
 
+abbrev pub none : List PlainOp
+none = []
+
 -- empty lists weigh nothing
-pub weigh-none : (weight : PlainOp → ℕ) (count : ℕ) → weigh weight (replicate count []) ≡ 0
-weigh-none weight count = omega (arith, sum_by-replicate (sum_by weight) count [])
+pub weigh-none : (weight : PlainOp → ℕ) (count : ℕ) → weigh weight (replicate count none) ≡ 0
+weigh-none weight count = omega (arith, sum_by-replicate (sum_by weight) count none)
 
 -- each empty list is empty
-pub get_or-none : (count worker : ℕ) → get_or {List PlainOp} (replicate count []) worker [] ≡ []
+pub get_or-none : (count worker : ℕ) → get_or (replicate count none) worker none ≡ none
 get_or-none zero worker = refl
 get_or-none (suc count) zero = refl
 get_or-none (suc count) (suc worker) = get_or-none count worker

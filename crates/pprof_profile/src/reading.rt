@@ -4,7 +4,8 @@ ghost use Rattle.std.specs.Prelude.{◌≡◌, ◌≢◌, Result, Ok, Err, IfOk,
 ghost use Rattle.pprof_wire.specs.Fields.{value_of};
 ghost use Rattle.pprof_profile.specs.declared.faults.ProfileFault.{ProfileFault};
 ghost use Rattle.pprof_profile.specs.Forms.{Form, empty_of, table_of};
-ghost use Rattle.pprof_profile.specs.Reading.{Spells, IsFirstFieldFault, SetsNumber, AddsNumbers, AddsText, AddsMessage};
+ghost use Rattle.pprof_profile.specs.Reading.{Spells, IsFirstFieldFault, SetsNumber, AddsNumbers, AddsText};
+ghost use Rattle.pprof_profile.specs.Reading.{AddsMessage};
 ghost use Rattle.pprof_profile.specs.Reading.{MergesMessage, IsUnpacked, IsPackedFault, KeepsRule, Reads};
 
 use crate::faults::ProfileFault;

@@ -184,7 +184,8 @@ number_by-name draft function named =
     grind (arith, common_steps, name, system_name, option_or-map)
 
 pub function_numbers_are : (draft : Draft) → map (number_by (string_numbers draft)) draft.functions
-    ≡ map (λ (function : Function). option_map (name_number draft) (function_name draft.strings function)) draft.functions
+    ≡ map (λ (function : Function). option_map (name_number draft) (function_name draft.strings function))
+    draft.functions
 function_numbers_are draft =
     map_agreeing (number_by (string_numbers draft))
     (λ (function : Function). option_map (name_number draft) (function_name draft.strings function)) draft.functions
@@ -434,8 +435,9 @@ abbrev pub line_number : Draft → ℕ → Line → ℕ
 line_number draft address line = name_number draft (line_name draft.strings draft.functions address line)
 
 -- the numbers of lines, where there are some
-pub numbers_of_lines : (draft : Draft) (address : ℕ) (lines : List Line) → 0 < length lines → map
-    (line_number draft address) lines ≡ map (name_number draft) (frames_from draft.strings draft.functions address lines)
+pub numbers_of_lines : (draft : Draft) (address : ℕ) (lines : List Line) → 0 < length lines
+    → map (line_number draft address) lines
+    ≡ map (name_number draft) (frames_from draft.strings draft.functions address lines)
 numbers_of_lines draft address [] some = absurd (omega (arith, some))
 numbers_of_lines draft address (line ∷ lines) some =
     sym (map-map (name_number draft) (line_name draft.strings draft.functions address) (line ∷ lines))

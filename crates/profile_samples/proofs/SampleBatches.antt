@@ -22,7 +22,8 @@ use Rattle.profile_samples.specs.declared.sampling.BatchFault.{BatchFault}
 use Rattle.profile_samples.specs.declared.sampling.BatchFault.TheVariants as faults
 use Rattle.profile_samples.specs.declared.sampling.ValueChoice.{ValueChoice}
 use Rattle.profile_samples.specs.Samples.{IsRowOfSample, IsSampleFault, chosen_types_of}
-use Rattle.profile_samples.specs.Batches.{AreRowsOfSamples, AreStacksOf, IsBatchOf, IsFirstSamplesFault, IsStacksWorkFault}
+use Rattle.profile_samples.specs.Batches.{AreRowsOfSamples, AreStacksOf, IsBatchOf, IsFirstSamplesFault}
+use Rattle.profile_samples.specs.Batches.{IsStacksWorkFault}
 use Rattle.profile_samples.specs.Batches.{StandsAtSample}
 use Rattle.profile_samples.proofs.SampleRows.{AreRowsOfSamples-push, AreRowsOfSamples-same, cut_at, faultless}
 use Rattle.profile_samples.proofs.SampleRows.{one_value_room, same_count, same_first}
@@ -95,9 +96,9 @@ pub memory_or_named : (fault : BatchFault) → (fault ≡ faults.NoMemory) ⊎ (
 memory_or_named faults.NoMemory = inl refl
 memory_or_named fault = inr (λ e. cc)
 
-pub IsFirstSamplesFault-batch : (most : ℕ) (draft : Draft) (choice : ValueChoice) (batch : BatchState) (fault : BatchFault)
-    → batch.width ≤ most → IsBatchOf draft choice batch → IsFirstSamplesFault most draft choice fault
-    → fault ≡ faults.NoMemory
+pub IsFirstSamplesFault-batch : (most : ℕ) (draft : Draft) (choice : ValueChoice) (batch : BatchState)
+    (fault : BatchFault) → batch.width ≤ most → IsBatchOf draft choice batch
+    → IsFirstSamplesFault most draft choice fault → fault ≡ faults.NoMemory
 IsFirstSamplesFault-batch most draft choice batch fault few this h =
     elim (memory_or_named fault) [
       | inl late ↦ late

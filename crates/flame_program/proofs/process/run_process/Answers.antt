@@ -10,8 +10,8 @@ returns-clause-ran g c =
     (λ words ends. (
       c.run_words.result,
       ran (map string_bytes (into_iter_items words)) 268435456 (g.R.Read.remaining c.args.reader.now)
-      (g.R.Read.remaining c.run_words.new.reader) (g.W.Write.contents c.args.writer.now)
-      (g.W.Write.contents c.run_words.new.writer) c.run_words.result _ ends c.exit_code.ensures,
+          (g.R.Read.remaining c.run_words.new.reader) (g.W.Write.contents c.args.writer.now)
+          (g.W.Write.contents c.run_words.new.writer) c.run_words.result _ ends c.exit_code.ensures,
       c.say.ensures,
     ))
     c.run_words.ensures.ends

@@ -196,8 +196,8 @@ def lines_at(one):
 
 
 def put_back(tries, refused):
-    """Puts the old lines of refused tries in their places, and returns the tries that are left and those put back. Where
-    a file is refused at no try, all of its tries go."""
+    """Puts the old lines of refused tries in their places, and returns the tries that are left and those put back.
+    Where a file is refused at no try, all of its tries go."""
     back = [one for one in tries if not refused.get(one.file, set()).isdisjoint(lines_at(one))]
     back = back or [one for one in tries if one.file in refused]
     for one in back:

@@ -3,10 +3,10 @@
 
     tools/slow_proofs.py [CRATE..]
 
-Each crate, or every crate, is checked from nothing by one process, over the libraries that `./build` keeps of those below
-it. A part of a proof is kept in a file as it is done, so what passes between two files is the later one's time: X.Lts is
-what the function's borrows and drops cost, X.Proof its clauses. The dearest functions of all these crates are listed,
-with their share of their crate's time.
+Each crate, or every crate, is checked from nothing by one process, over the libraries that `./build` keeps of those
+below it. A part of a proof is kept in a file as it is done, so what passes between two files is the later one's time:
+X.Lts is what the function's borrows and drops cost, X.Proof its clauses. The dearest functions of all these crates are
+listed, with their share of their crate's time.
 """
 import collections
 import pathlib

@@ -86,7 +86,8 @@ def four_pipes(folder, megabytes):
         writer.join()
     seconds, size = time.time() - began, sum(map(len, texts))
     good = run.status == 0 and run.folded() == fold(b"".join(fold(text) for text in texts))
-    return good, f"{len(run.windows())} windows add up to the fold of {size // 10**6} MB, {size / seconds / 1e6:.0f} MB/s"
+    rate = size / seconds / 1e6
+    return good, f"{len(run.windows())} windows add up to the fold of {size // 10**6} MB, {rate:.0f} MB/s"
 
 
 def killed(folder, megabytes):
@@ -137,7 +138,8 @@ def stalled(folder, _):
         early = run.folded()
         waiting.write(b"late 1\n")
     run.end()
-    return early == fold(text) and run.folded() == fold(text + b"late 1\n"), "a source stalls: the other's windows are written"
+    good = early == fold(text) and run.folded() == fold(text + b"late 1\n")
+    return good, "a source stalls: the other's windows are written"
 
 
 def cut(folder, _):

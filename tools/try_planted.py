@@ -200,7 +200,8 @@ def try_crate(kit, crate, sum, verbose):
             left = [it for it in left if it not in shown and it not in missed]
             # (where many show nothing, one may keep the others from being checked)
             many = bool(shown)
-    print(f"{crate.name}: {len(edits) - len(missed)} of {len(edits)} wrong bodies refused, in {checks} checks", flush=True)
+    refused_ones = len(edits) - len(missed)
+    print(f"{crate.name}: {refused_ones} of {len(edits)} wrong bodies refused, in {checks} checks", flush=True)
     for edit in missed:
         print(f"{crate.name}: NOT REFUSED: {edit.path.relative_to(ROOT)}", flush=True)
     return missed

@@ -118,7 +118,8 @@ impl<N: StoreName> LockedBook<N> {
     /// of which history it is.
     fn show_name<R: Wait>(&mut self, rt: &R) -> Result<(), AllocError>
         ensures named { OnOk result (IsOf (known self.new.versions.desk.place) N.history N.width) }
-        ensures same { self.new ≡ record self.old { versions = self.new.versions } }
+        ensures given { self.new.given ≡ self.old.given }
+        ensures book { self.new.book ≡ self.old.book }
     {
         if self.given == 0 {
             if !make_room(&mut self.versions) {

@@ -52,7 +52,8 @@ impl<'a> LocationSums<'a> {
 
     /// What all weigh together. Takes no time per list.
     pub fn total(&self) -> u64
-        ensures { result ≡ total_of_sums self.now }
+        ensures total { result ≡ total_of_sums self.now }
+        ensures fits { result < 2 ^ 63 }
     {
         self.total
     }

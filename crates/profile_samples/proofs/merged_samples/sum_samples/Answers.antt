@@ -26,7 +26,7 @@ returns-in_err-weight-clause-sums c = λ choice is_chosen.
     let (rows, so_far, merged) = c.loop-index.invariant.0 in
     let read = rw c.draft.ensures.draft at c.at-sample.ensures in
     let total : c.total.result ≡ total_of rows =
-    c.total.ensures ∙ sym (total_of-rows c.args.profile.now c.loop-index.sums) ∙ merged.total in
+    c.total.ensures.total ∙ sym (total_of-rows c.args.profile.now c.loop-index.sums) ∙ merged.total in
     let there = rw (c.requires.framed, total) at c.in_err-weight.ensures in
     rw (p.1, p.2) (AreStacksSoFar-stands c.args.profile.now choice c.args.chosen
     c.loop-index.index c.at-sample.result rows c.in_err-weight.field-0.0 is_chosen read so_far there)
@@ -37,7 +37,7 @@ returns-in_err-add-clause-sums c = λ choice is_chosen.
     let (rows, so_far, merged) = c.loop-index.invariant.0 in
     let read = rw c.draft.ensures.draft at c.at-sample.ensures in
     let total : c.total.result ≡ total_of rows =
-    c.total.ensures ∙ sym (total_of-rows c.args.profile.now c.loop-index.sums) ∙ merged.total in
+    c.total.ensures.total ∙ sym (total_of-rows c.args.profile.now c.loop-index.sums) ∙ merged.total in
     let own = rw c.requires.framed at c.in_ok-weight.ensures.row in
     let fits = rw total at c.in_ok-weight.ensures.fits in
     rw (p.1, p.2) (AreStacksSoFar-stands c.args.profile.now choice c.args.chosen

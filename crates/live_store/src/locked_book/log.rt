@@ -3,7 +3,6 @@
 ghost use Rattle.std.specs.Prelude.{◌≡◌, ◌<◌, [], ℕ, OnOk, false, length, true};
 ghost use Rattle.op_book.specs.Books.{change_told};
 ghost use Rattle.op_book.specs.Operations.{PlainOp, is_change};
-ghost use Rattle.live_store.specs.Changes.{HasKept};
 ghost use Rattle.live_store.specs.Stores.{changes_told};
 
 use op_book::Receipt;
@@ -23,6 +22,8 @@ pub(crate) struct Log {
 }
 
 impl Log {
+    ghost use Rattle.live_store.specs.Changes.{HasKept};
+
     /// Nothing told yet to the session of this number. Takes no memory.
     pub(super) fn new(alloc: Global, number: u32) -> Log
         ensures number { result.number ≡ number }

@@ -8,25 +8,25 @@ pub returns-clause-ran : goal.returns-clause-ran
 returns-clause-ran g c =
     IfOk-weaker c.args.words _ _
     (λ words ends. (
-      c.run_words.result,
+      c.run_words-cause.result,
       ran (map string_bytes (into_iter_items words)) 268435456 (g.R.Read.remaining c.args.reader.now)
-          (g.R.Read.remaining c.run_words.new.reader) (g.W.Write.contents c.args.writer.now)
-          (g.W.Write.contents c.run_words.new.writer) c.run_words.result _ ends c.exit_code.ensures,
-      c.say.ensures,
+          (g.R.Read.remaining c.run_words-cause.new.reader) (g.W.Write.contents c.args.writer.now)
+          (g.W.Write.contents c.run_words-cause.new.writer) c.run_words-cause.result _ ends c.exit_code.ensures,
+      c.say-said.ensures,
     ))
-    c.run_words.ensures.ends
+    c.run_words-cause.ensures.ends
 
 pub returns-clause-unread : goal.returns-clause-unread
-returns-clause-unread c =
+returns-clause-unread g c =
     IfErr-weaker c.args.words _ _
     (λ error unread. (
-      c.run_words.result,
+      c.run_words-cause.result,
       record {
         code_is = c.exit_code.ensures;
         cause_is = unread.0;
         reader_is = unread.1;
         writer_is = unread.2;
       },
-      c.say.ensures,
+      c.say-said.ensures,
     ))
-    c.run_words.ensures.unread
+    c.run_words-cause.ensures.unread

@@ -1,7 +1,6 @@
 //! Lines that were received and aren't all added yet.
 
 ghost use Rattle.std.specs.Prelude.{◌≡◌, ◌+◌, ◌≤◌, drop, length};
-ghost use Rattle.collecting.specs.Added.{IsAfter};
 
 use collect_sources::{Lines, Origin, count_lines};
 use std::sync::{Arc, Wait};
@@ -18,6 +17,8 @@ pub(crate) struct Text {
 }
 
 impl Text {
+    ghost use Rattle.collecting.specs.Added.{IsAfter};
+
     /// Lines of an origin.
     pub(crate) fn new(origin: Arc<Origin>, lines: Lines) -> Text {
         Text {

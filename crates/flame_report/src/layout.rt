@@ -2,8 +2,8 @@
 //! two don't share are the paths that come first with this row, in the order of paths.
 
 ghost use Rattle.std.specs.Prelude.{ℕ, ◌≡◌, ◌++◌, ◌+◌, ◌<◌, ◌≤◌, false, All, IfOk, OnOk, drop, length, map, take};
-ghost use Rattle.std.specs.List.{common_prefix_len};
-ghost use Rattle.std.specs.Ordering.{eq_by_cmp};
+ghost use Rattle.std.specs.List.{take_while, zip};
+ghost use Rattle.std.specs.Str.{bytes_eq};
 ghost use Rattle.profile_rows.specs.Layout.{column_at, last_name, rectangle_at, rectangles_of};
 ghost use Rattle.profile_rows.specs.Limits.{most_frames};
 ghost use Rattle.profile_rows.specs.Names.{IsName, name_cmp};
@@ -48,15 +48,13 @@ struct Shape {
 
 /// How many frames a row shares with the row before, from their roots.
 fn shared(before: &[&str], frames: &[&str]) -> usize
-    ensures { result
-        ≡ common_prefix_len (λ other frame. eq_by_cmp name_cmp other.now frame.now) before.now frames.now }
+    ensures { result ≡ length (take_while (λ pair. bytes_eq pair.0.now pair.1.now) (zip before.now frames.now)) }
 {
-    for (at, frame) in before.iter().enumerate() {
-        if at >= frames.len() || *frame != frames[at] {
-            return at;
-        }
-    }
-    before.len()
+    before
+        .iter()
+        .zip(frames)
+        .take_while(|(other, frame)| other == frame)
+        .count()
 }
 
 /// The shapes of rows.

@@ -1,5 +1,6 @@
 -- What a person can ask of `live`.
 use Rattle.std.specs.Prelude.{ℕ, ◌-◌, ◌==◌, ◌&&◌, Bool, cond, nat_le, not, Option, Some, None, if◌then◌else◌}
+use Rattle.op_book.specs.Runs.{most_sessions}
 
 -- how many workers add the rows, whether the report of each value is written, and whether a session before the workers
 -- adds all rows and resets the store
@@ -8,13 +9,9 @@ pub record PlainOptions : Type 0 where
   pub all : Bool
   pub warm : Bool
 
--- how many sessions a store has at most
-abbrev pub store_sessions : ℕ
-store_sessions = 64
-
 -- how many workers there can be: a warm start takes one of a store's sessions
 abbrev pub most_workers : Bool → ℕ
-most_workers warm = cond warm (store_sessions - 1) store_sessions
+most_workers warm = cond warm (most_sessions - 1) most_sessions
 
 -- options with so many workers, where there can be so many
 abbrev pub options_of : ℕ → Bool → Bool → Option PlainOptions

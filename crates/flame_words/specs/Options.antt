@@ -9,7 +9,7 @@ use Rattle.flame_report.specs.declared.query.Kind.{Kind}
 use Rattle.flame_report.specs.declared.query.Kind.TheVariants as kind
 use Rattle.flame_report.specs.declared.query.Rank.{Rank}
 use Rattle.flame_report.specs.declared.query.Rank.TheVariants.{Flat, Cum}
-use Rattle.flame_words.specs.LiveOptions.{store_sessions}
+use Rattle.op_book.specs.Runs.{most_sessions}
 use Rattle.flame_words.specs.declared.request.Format.{Format}
 use Rattle.flame_words.specs.declared.request.Format.TheVariants.{Folded, Pprof}
 
@@ -55,7 +55,7 @@ columns_of (Some number) = if not (number == 0) && nat_lt number 65536 then Some
 -- a number of threads: 1 to 64
 abbrev pub sessions_of : Option ℕ → Option ℕ
 sessions_of None = None
-sessions_of (Some number) = if not (number == 0) && nat_le number store_sessions then Some number else None
+sessions_of (Some number) = if not (number == 0) && nat_le number most_sessions then Some number else None
 
 abbrev pub sessions_in : List Row → Option ℕ
 sessions_in rows = sessions_of (number_named (text_or (codes "2") (codes "sessions") rows))

@@ -3,10 +3,8 @@
 ghost use Rattle.std.specs.Prelude.{◌≡◌, ◌<◌, ◌≤◌};
 ghost use Rattle.flame_words.specs.LiveOptions.{most_workers, options_of};
 
+use op_book::MAX_SESSIONS;
 use std::marker::Model;
-
-/// The most sessions of a store.
-pub(crate) const MAX_SESSIONS: u32 = 64;
 
 /// How the rows are stored, and what is written.
 #[derive(Clone, Copy, Debug, PartialEq, Eq)]

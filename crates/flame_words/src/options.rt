@@ -7,10 +7,10 @@ ghost use Rattle.clap.specs.Words.{first_of, found_of, rows_of};
 ghost use Rattle.flame_words.specs.Options.{columns_of, flame_kind, format_named, is_digit, is_number, is_set};
 ghost use Rattle.flame_words.specs.Options.{number_named, rank_named, sessions_in, sessions_of, text_or, top_kind};
 
-use crate::live_options::MAX_SESSIONS;
 use crate::request::Format;
 use clap::ArgMatches;
 use flame_report::{Columns, Kind, Rank};
+use op_book::MAX_SESSIONS;
 
 /// The value of an option, where it has one.
 pub(crate) fn given<'a>(matches: &ArgMatches<'a>, id: &str) -> Option<&'a str>

@@ -135,22 +135,6 @@ rows_text-IsFoldedText rows each fits = grind (arith, common_steps, recursion_fr
 
 -- ---- the loops that write
 
-join-push : (c : ℕ) (names : List (List ℕ)) (name : List ℕ)
-    → 0 < length names → join_with_byte c (names ++ name ∷ []) ≡ (join_with_byte c names ++ c ∷ []) ++ name
-join-push c [] name some = absurd (omega arith)
-join-push c (first ∷ []) name some = sym (append_assoc first (c ∷ []) name)
-join-push c (first ∷ next ∷ names) name some =
-    grind (arith, common_steps, join-push c (next ∷ names) name (omega arith))
-
--- one name more: a semicolon before it, but before the first
-pub join_more : (names : List (List ℕ)) (k : ℕ) (d start before after : List ℕ)
-    → k < length names → before ≡ start ++ join_with_byte 59 (take k names)
-    → ((0 < k) × (after ≡ before ++ 59 ∷ [])) ⊎ ((k ≡ 0) × (after ≡ before))
-    → after ++ get_or names k d ≡ start ++ join_with_byte 59 (take (k + 1) names)
-join_more names k d start before after lt so_far (inl (some, semicolon)) =
-    grind (arith, common_steps, length-take-le, take_more, join-push)
-join_more names k d start before after lt so_far (inr (none, same)) = grind (arith, common_steps, append-nil, take_more)
-
 -- one row more
 pub rows_text_more : (rows : List WeightedStack) (k : ℕ) (d : WeightedStack) (before after : List ℕ)
     → k < length rows → before ≡ rows_text (take k rows)

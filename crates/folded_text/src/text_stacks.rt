@@ -12,8 +12,8 @@ ghost use Rattle.folded_text.specs.TextRows.{AreTextRows, IsStackText, spelled_r
 use crate::stack_frames::Frames;
 use crate::text_row::TextRow;
 use crate::text_totals::count_rows;
+use crate::written::end_line;
 use basics::NoMemory;
-use itoa::Buffer;
 use name_counts::CountedRows;
 use profile_rows::{FrameTotals, Hashing, Name, StackText};
 use std::alloc::Global;
@@ -145,15 +145,12 @@ impl<'a> TextStacks<'a> {
     pub fn write(&self, alloc: Global) -> Result<Vec<u8>, NoMemory>
         ensures { IfOk result (λ text. text.items ≡ rows_text self.now) }
     {
-        let mut text = Vec::new(alloc);
-        let mut buffer = Buffer::new();
+        let mut text = String::new(alloc);
         for row in self.rows.as_slice() {
-            text.extend_from_slice(row.text().as_bytes())?;
-            text.push(b' ')?;
-            text.extend_from_slice(buffer.format(row.weight()).as_bytes())?;
-            text.push(b'\n')?;
+            text.push_str(row.text())?;
+            end_line(&mut text, row.weight())?;
         }
-        Ok(text)
+        Ok(text.into_bytes())
     }
 
     /// What the names weigh in the rows.

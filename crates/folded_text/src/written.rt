@@ -1,6 +1,7 @@
 //! Folded text written.
 
-ghost use Rattle.std.specs.Prelude.{◌≡◌, ◌++◌, ◌<◌, ◌≤◌, All, IfOk, OnOk, length};
+ghost use Rattle.std.specs.Prelude.{◌≡◌, ◌++◌, ◌<◌, ◌≤◌, ◌∷◌, [], All, IfOk, OnOk, length, string_bytes};
+ghost use Rattle.std.specs.Fmt.{decimal};
 ghost use Rattle.folded_text.specs.FoldedText.{IsFoldedBatch, IsTextOf, row_text};
 ghost use Rattle.profile_rows.specs.Limits.{most_frames};
 ghost use Rattle.profile_rows.specs.Names.{IsName};
@@ -8,27 +9,28 @@ ghost use Rattle.profile_rows.specs.Values.{rows_at};
 
 use basics::NoMemory;
 use itoa::Buffer;
-use profile_rows::{Batch, Stack, WeightedStacks};
-use std::alloc::Global;
+use profile_rows::{Batch, Stack, WeightedStacks, push_joined};
+use std::alloc::{AllocError, Global};
+
+/// Ends a line with a space and its weight.
+pub(crate) fn end_line(text: &mut String, weight: u64) -> Result<(), AllocError>
+    ensures { OnOk result (string_bytes text.new ≡ string_bytes text.old ++ 32 ∷ decimal weight ++ 10 ∷ []) }
+{
+    let mut buffer = Buffer::new();
+    text.push(' ')?;
+    text.push_str(buffer.format(weight))?;
+    text.push('\n')
+}
 
 /// Adds the line of a stack and its weight.
-fn push_row(text: &mut Vec<u8>, stack: &Stack, weight: u64) -> Result<(), NoMemory>
-    ensures line { OnOk result
-        (text.new.items ≡ text.old.items ++ row_text (record { stack = stack.now; weight = weight })) }
+fn push_row(text: &mut String, stack: &Stack, weight: u64) -> Result<(), AllocError>
+    ensures line { OnOk result (string_bytes text.new
+        ≡ string_bytes text.old ++ row_text (record { stack = stack.now; weight = weight })) }
     ensures names { OnOk result (All IsName stack.now) }
     ensures depth { length stack.now ≤ most_frames }
 {
-    for (index, name) in stack.names().iter().enumerate() {
-        if index > 0 {
-            text.push(b';')?;
-        }
-        text.extend_from_slice(name.text().as_bytes())?;
-    }
-    let mut buffer = Buffer::new();
-    text.push(b' ')?;
-    text.extend_from_slice(buffer.format(weight).as_bytes())?;
-    text.push(b'\n')?;
-    Ok(())
+    push_joined(text, stack.names())?;
+    end_line(text, weight)
 }
 
 /// Writes each row as a line of folded text, in the order of the rows, also rows of weight 0: the names joined by
@@ -40,11 +42,11 @@ fn push_row(text: &mut Vec<u8>, stack: &Stack, weight: u64) -> Result<(), NoMemo
 pub fn write_stacks(alloc: Global, rows: &WeightedStacks) -> Result<Vec<u8>, NoMemory>
     ensures { IfOk result (λ text. IsTextOf rows.now text.items) }
 {
-    let mut text = Vec::new(alloc);
+    let mut text = String::new(alloc);
     for row in rows.rows() {
         push_row(&mut text, &row.stack, row.weight)?;
     }
-    Ok(text)
+    Ok(text.into_bytes())
 }
 
 /// Writes each row of a batch by the value of this number, counted from 0, as [`write_stacks`] does. Where rows have
@@ -58,9 +60,9 @@ pub fn write_folded(alloc: Global, batch: &Batch, value: u32) -> Result<Vec<u8>,
     ensures written { IfOk result (λ text. IsTextOf (rows_at value batch.now.rows) text.items) }
     ensures reads_back_whole { IfOk result (λ text. batch.now.width ≡ 1 → IsFoldedBatch text.items batch.now) }
 {
-    let mut text = Vec::new(alloc);
+    let mut text = String::new(alloc);
     for at in 0..batch.first().rows().len() {
         push_row(&mut text, batch.row(at).stack, batch.weight(at, value))?;
     }
-    Ok(text)
+    Ok(text.into_bytes())
 }

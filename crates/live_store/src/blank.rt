@@ -4,15 +4,12 @@ ghost use Rattle.std.specs.Prelude.{◌≡◌, [], IfOk, MatchResult};
 ghost use Rattle.live_store.specs.Stores.{IsBlankOf, IsMakeFault};
 
 use crate::fault::MakeFault;
-use op_book::Book;
+use op_book::{Book, MAX_SESSIONS};
 use profile_rows::{Hashing, NoMemory, Width};
 use shown_versions::{NewHistory, Reached, Version, VersionWriter, new_writer};
 use std::alloc::Global;
 use std::marker::Model;
 use std::sync::Arc;
-
-/// The most sessions of a store.
-pub const MAX_SESSIONS: u32 = 64;
 
 /// An empty store that has no name yet: [`Store::start`](crate::Store::start) takes it.
 pub struct Blank {

@@ -10,9 +10,9 @@ mod store;
 mod told;
 mod workers;
 
-pub use blank::{Blank, MAX_SESSIONS};
+pub use blank::Blank;
 pub use fault::{MakeFault, SessionFault, WorkersFault};
-pub use op_book::{BookFault, Refused};
+pub use op_book::{BookFault, MAX_SESSIONS, Refused};
 pub use session::Session;
 pub use shown_versions::StoreName;
 pub use store::Store;

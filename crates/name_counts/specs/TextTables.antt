@@ -2,6 +2,7 @@
 use Rattle.std.specs.Prelude.{ℕ, ◌+◌, List, [], ◌∷◌, ◌++◌, if◌then◌else◌, map, slice_index_or}
 use Rattle.std.specs.List.{list_any}
 use Rattle.std.specs.Str.{bytes_eq}
+use denote.Ref.{Bor}
 use Rattle.profile_rows.specs.declared.hashing.Hashing.{Hashing}
 
 -- the number of a text; where it is missing, how many texts there are
@@ -12,6 +13,10 @@ number_in (first ∷ texts) text = if bytes_eq text first then 0 else number_in 
 -- the texts of these numbers
 abbrev pub names_at : List (List ℕ) → List ℕ → List (List ℕ)
 names_at texts numbers = map (λ number. slice_index_or texts number []) numbers
+
+-- the text of a number, of texts that are lent
+abbrev pub lent_at : List (Bor (List ℕ)) → ℕ → List ℕ
+lent_at texts number = (slice_index_or texts number (record { ref_ptr = (0, 0); now = [] })).now
 
 -- a text that is there isn't added again
 abbrev pub with_text : List (List ℕ) → List ℕ → List (List ℕ)

@@ -1,10 +1,10 @@
 //! The frames of a row by the numbers of their names.
 
 ghost use Rattle.std.specs.Prelude.{◌≡◌, ◌<◌, ◌^◌, ◌++◌, ◌∷◌, [], All, OnErr, OnOk, length, map, take, ℕ};
-ghost use Rattle.std.specs.List.{common_prefix_len};
+ghost use Rattle.std.specs.List.{take_while, zip};
 ghost use Rattle.std.specs.Str.{bytes_eq};
 ghost use Rattle.name_counts.specs.NumberedRows.{SharesFrames};
-ghost use Rattle.name_counts.specs.TextTables.{names_at, number_in, with_text, with_texts};
+ghost use Rattle.name_counts.specs.TextTables.{lent_at, names_at, number_in, with_text, with_texts};
 
 use crate::text_table::TextTable;
 use basics::NoMemory;
@@ -37,18 +37,16 @@ impl<'a> Model for NumberedRow<'a> {
 }
 
 /// How many frames a row shares from its root with one whose names have these numbers.
-fn shared_frames(names: &TextTable<'_>, numbers: &[usize], frames: &[&str]) -> usize
-    requires { All (λ number. number < length names.now.texts) numbers.now }
-    ensures { result ≡ common_prefix_len bytes_eq (names_at names.now.texts numbers.now)
-        (map (λ frame. frame.now) frames.now) }
+fn shared_frames(texts: &[&str], numbers: &[usize], frames: &[&str]) -> usize
+    requires { All (λ number. number < length texts.now) numbers.now }
+    ensures { result ≡ length (take_while (λ pair. bytes_eq (lent_at texts.now pair.0) pair.1.now)
+        (zip numbers.now frames.now)) }
 {
-    let texts = names.texts();
-    for (at, number) in numbers.iter().enumerate() {
-        if at >= frames.len() || texts[*number] != frames[at] {
-            return at;
-        }
-    }
-    numbers.len()
+    numbers
+        .iter()
+        .zip(frames)
+        .take_while(|(number, frame)| texts[**number] == **frame)
+        .count()
 }
 
 impl<'a> NumberedRow<'a> {
@@ -83,7 +81,7 @@ impl<'a> NumberedRow<'a> {
     fn keep_shared(&mut self, frames: &[&str]) -> usize
         ensures { SharesFrames self.old self.new frames.now result }
     {
-        let shared = shared_frames(&self.names, self.numbers.as_slice(), frames);
+        let shared = shared_frames(self.names.texts(), self.numbers.as_slice(), frames);
         self.numbers.truncate(shared);
         shared
     }

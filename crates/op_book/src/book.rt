@@ -21,6 +21,9 @@ mod changing;
 
 pub use changing::Change;
 
+/// The most sessions of a book.
+pub const MAX_SESSIONS: u32 = 64;
+
 /// Changes in order, each with its reply, and the tree of what they added since the last reset. Whatever is done to a
 /// book, its tree is the aggregate of the additions that count, and each reply is what the plain profile gives after
 /// the changes before.

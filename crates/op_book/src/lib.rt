@@ -10,7 +10,7 @@ pub mod laws;
 mod ledger;
 mod operation;
 
-pub use book::{Book, Change, Ready};
+pub use book::{Book, Change, MAX_SESSIONS, Ready};
 pub use entry::{Entry, Receipt, SessionLog};
 pub use fault::{BookFault, Refused};
 pub use flame_report::NoMemory;

@@ -4,6 +4,7 @@ pub mod Canonical
 pub mod Forms
 pub mod KnownIds
 pub mod Messages
+pub mod NearTables
 pub mod Profiles
 pub mod Reading
 pub mod SampleLists

@@ -9,6 +9,7 @@ mod ids;
 mod indices;
 pub mod laws;
 mod messages;
+mod near_table;
 mod numbers;
 mod profile;
 mod reading;
@@ -22,8 +23,8 @@ mod written_samples;
 
 pub use basics::Items;
 pub use faults::{ProfileFault, Refused};
-pub use ids::IdRange;
 pub use messages::{Draft, Function, Label, Line, Location, Mapping, Sample, ValueType};
+pub use near_table::{IdRange, NearTable};
 pub use pprof_wire::{NoMemory, WireFault};
 pub use profile::{Profile, check, decode, encode};
 pub use sample_iter::SampleIter;

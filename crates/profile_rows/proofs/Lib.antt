@@ -5,6 +5,7 @@ pub mod EntryLaws
 pub mod EqualRows
 pub mod FourValues
 pub mod InOrder
+pub mod Joining
 pub mod Kept
 pub mod LentStacks
 pub mod Members

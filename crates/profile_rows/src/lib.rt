@@ -26,7 +26,7 @@ pub use hashing::Hashing;
 pub use keeping::keeps;
 pub use name::{Name, NameFault};
 pub use stack::{MAX_DEPTH, Stack};
-pub use stack_texts::StackText;
+pub use stack_texts::{AsName, StackText, push_joined};
 pub use summing::aggregate_stacks;
 pub use values::{MAX_WIDTH, Weights, Width, first_heavy};
 pub use weighted_stacks::{MAX_TOTAL, PushFault, Refused, WeightedStack, WeightedStacks};

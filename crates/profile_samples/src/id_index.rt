@@ -5,21 +5,19 @@ ghost use Rattle.std.specs.HashMap as hash;
 ghost use Rattle.profile_samples.specs.IdIndex.{index_found};
 
 use basics::NoMemory;
-use pprof_profile::IdRange;
+use pprof_profile::{IdRange, NearTable};
 use profile_rows::Hashing;
 use std::alloc::Global;
 use std::collections::HashMap;
 use std::marker::Model;
 use std::snapshot::Snapshot;
 
-/// Where each id stands among the ids of items, by a table for those that lie close together. A contract sees the ids.
+/// Where each id stands among the ids of items. A contract sees the ids.
 #[derive(Drop)]
 pub(crate) struct IdIndex {
     ids: Snapshot<Vec<u64>>,
-    /// The number that the table begins with.
-    lowest: u64,
-    /// For each number from there on one more than its index, or 0 where it has none here.
-    near: Vec<usize>,
+    /// One more than the index of each id near others, or 0 where it has none here.
+    near: NearTable<usize>,
     /// The indices of other ids.
     far: HashMap<u64, usize, Hashing>,
 }
@@ -34,7 +32,7 @@ impl Model for IdIndex {
     ghost view = { λ indices. indices.ids.value.items };
 
     ghost invariant = { λ indices. AreIdIndices indices.ids.value.items
-        (index_found indices.lowest indices.near.items (hash.get ◌==◌ indices.far)) };
+        (index_found indices.near (hash.get ◌==◌ indices.far)) };
 }
 
 impl IdIndex {
@@ -45,14 +43,13 @@ impl IdIndex {
         let range = ids
             .iter()
             .fold(IdRange::empty(), |range, id| range.with(*id));
-        let mut near = vec![in alloc; 0; range.table_len(ids.len())]?;
+        let mut near = NearTable::new(alloc, range, ids.len(), 0)?;
         let mut far = HashMap::with_hasher(alloc, hashing);
         for (at, id) in ids.iter().enumerate() {
-            put(range.lowest, &mut near, &mut far, *id, at)?;
+            put(&mut near, &mut far, *id, at)?;
         }
         Ok(IdIndex {
             ids: Snapshot::of(&ids),
-            lowest: range.lowest,
             near,
             far,
         })
@@ -64,33 +61,26 @@ impl IdIndex {
         ensures { MatchOption result ((at : ℕ) → slice_get self.now at ≢ Some id)
             (λ at. slice_get self.now at ≡ Some id) }
     {
-        match id.checked_sub(self.lowest) {
-            Some(at) if (at as usize) < self.near.len() && self.near[at as usize] > 0 => {
-                Some(self.near[at as usize] - 1)
-            }
+        match self.near.get(id) {
+            Some(after) if after > 0 => Some(after - 1),
             _ => self.far.get(&id).copied(),
         }
     }
 }
 
-/// Gives an id its index, in the table from `lowest` on where that has a place for it.
+/// Gives an id its index, in the table where that has a place for it.
 fn put(
-    lowest: u64,
-    near: &mut Vec<usize>,
+    near: &mut NearTable<usize>,
     far: &mut HashMap<u64, usize, Hashing>,
     id: u64,
     index: usize,
 ) -> Result<(), NoMemory>
     requires { index < 2 ^ 64 - 1 }
-    ensures { OnOk result ((other : ℕ)
-        → index_found lowest near.new.items (hash.get ◌==◌ far.new) other
-        ≡ cond (id == other) (Some index) (index_found lowest near.old.items (hash.get ◌==◌ far.old) other)) }
+    ensures { OnOk result ((other : ℕ) → index_found near.new (hash.get ◌==◌ far.new) other
+        ≡ cond (id == other) (Some index) (index_found near.old (hash.get ◌==◌ far.old) other)) }
 {
-    match id.checked_sub(lowest) {
-        Some(at) if (at as usize) < near.len() => near[at as usize] = index + 1,
-        _ => {
-            far.insert(id, index)?;
-        }
+    if !near.set(id, index + 1) {
+        far.insert(id, index)?;
     }
     Ok(())
 }

@@ -15,7 +15,7 @@ use super::CallTree;
 use crate::node::Node;
 use profile_rows::{
     Batch, FrameTotal, MAX_DEPTH, Name, NoMemory, Stack, StackText, WeightedStack, WeightedStacks,
-    Weights, Width, aggregate, aggregate_stacks,
+    Weights, Width, aggregate, aggregate_stacks, push_joined,
 };
 use std::alloc::{AllocError, Global};
 
@@ -239,7 +239,8 @@ impl CallTree {
         ensures names { OnOk result (All IsName (stack_at (nodes_at self.now 0) at)) }
     {
         self.replace_names(names, at)?;
-        replace_joined(joined, names.as_slice())?;
+        joined.clear();
+        push_joined(joined, names.as_slice())?;
         Ok(String::from_str(alloc, joined.as_str())?)
     }
 
@@ -296,21 +297,6 @@ fn shares_of(alloc: Global, names: &[&Name]) -> Result<Vec<Name>, NoMemory>
         shares.push((*name).clone()?)?;
     }
     Ok(shares)
-}
-
-/// Names with a semicolon between each two, in the place of another text.
-fn replace_joined(text: &mut String, names: &[&Name]) -> Result<(), AllocError>
-    ensures joined { OnOk result (string_bytes text.new ≡ join_with_byte 59 (map (λ name. name.now) names.now)) }
-    ensures named { OnOk result (All IsName (map (λ name. name.now) names.now)) }
-{
-    text.clear();
-    for (index, name) in names.iter().enumerate() {
-        if index > 0 {
-            text.push(';')?;
-        }
-        text.push_str(name.text())?;
-    }
-    Ok(())
 }
 
 /// For each of these rows one row more, which has its weight as this value and 0 as each other.

@@ -33,13 +33,13 @@ loop-at-preserved c =
       All-more can_stand rows c.loop-at.at (written c) (within c) c.loop-at.invariant.1 names,
     )
 
-whole : (c : goal.After-loop-at)
+whole : (c : goal.After-into_bytes)
     → take c.loop-at.at (rows_at c.args.value c.args.batch.now.rows) ≡ rows_at c.args.value c.args.batch.now.rows
 whole c = grind (arith, common_steps, length-rows_at)
 
 pub returns-clause-written : goal.returns-clause-written
 returns-clause-written c = record {
-  lines_are = c.loop-at.invariant.0 ∙ ap rows_text (whole c);
+  lines_are = ap (λ bytes. bytes.items) c.into_bytes.ensures.value ∙ c.loop-at.invariant.0 ∙ ap rows_text (whole c);
   reads_back = search (rules, rows_text-IsFoldedText, all_batch_rows, whole);
 }
 
@@ -48,7 +48,7 @@ returns-clause-reads_back_whole c = λ one.
     let rows = c.args.batch.now.rows in
     let first : c.args.value ≡ 0 = omega (arith, one, c.requires) in (
       rows_at 0 rows,
-      subst (λ value. IsFoldedText c.loop-at.text.items (rows_at value rows)) first
+      subst (λ value. IsFoldedText c.into_bytes.result.items (rows_at value rows)) first
           (returns-clause-written c).reads_back,
       sym (single_batch-rows_at c.args.batch.now c.first.ensures.batch one),
     )

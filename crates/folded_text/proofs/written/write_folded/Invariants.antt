@@ -1,4 +1,4 @@
-use Rattle.std.proofs.Common.{◌≡◌, ◌≤◌, All, length, take}
+use Rattle.std.proofs.Common.{◌≡◌, ◌≤◌, All, length, string_bytes, take}
 use Rattle.profile_rows.specs.declared.weighted_stacks.WeightedStack.{WeightedStack}
 use Rattle.profile_rows.specs.Names.{IsName}
 use Rattle.profile_rows.specs.Values.{rows_at}
@@ -7,6 +7,6 @@ use Rattle.folded_text.proofs.written.write_folded.Given as goal
 
 -- the lines so far, of rows whose stacks a batch can hold
 abbrev pub invariant-loop-at : goal.invariant-loop-at
-invariant-loop-at l = (l.text.items ≡ rows_text (take l.at (rows_at l.value l.batch.rows)))
+invariant-loop-at l = (string_bytes l.text ≡ rows_text (take l.at (rows_at l.value l.batch.rows)))
     × All (λ (row : WeightedStack). All IsName row.stack × (length row.stack ≤ 65535))
     (take l.at (rows_at l.value l.batch.rows))

@@ -19,6 +19,6 @@ pub invariant_of-result : goal.invariant_of-result
 invariant_of-result c =
     let past = c.loop-at-test.false in
     let count = ap length c.deref-id-items.ensures.value in
-    let find = index_found c.fold-range.result.lowest c.loop-at.near.items (hash.get ◌==◌ c.loop-at.far) in
+    let find = index_found c.loop-at.near (hash.get ◌==◌ c.loop-at.far) in
     subst (λ ids. AreIdIndices ids find) (ap (λ ids. ids.items) (sym c.of.ensures))
     (indices_all c.args.ids.items find c.loop-at.at (omega (arith, past, count)) c.loop-at.invariant)

@@ -7,4 +7,4 @@ use Rattle.profile_samples.proofs.id_index.IdIndex.new.Given as goal
 -- the indices of the ids so far
 abbrev pub invariant-loop-at : goal.invariant-loop-at
 invariant-loop-at l =
-    AreIndicesOfFirst l.fn.ids.items (index_found l.range.lowest l.near.items (hash.get ◌==◌ l.far)) l.at
+    AreIndicesOfFirst l.fn.ids.items (index_found l.near (hash.get ◌==◌ l.far)) l.at

@@ -93,7 +93,8 @@ pub fn report(alloc: Global, tree: &CallTree, query: &Query) -> Result<Answer, N
             Ok(Answer::Top(top))
         }
         _ => {
-            let rows = OrderedRows::named(tree.weighted_stacks(alloc, query.value)?);
+            let texts = tree.stack_texts(alloc, query.value)?;
+            let rows = OrderedRows::of_texts(alloc, texts.as_slice())?;
             report_in_order(alloc, Hashing::fixed(), rows, query)
         }
     }

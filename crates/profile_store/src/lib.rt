@@ -11,7 +11,7 @@
 //! # What is in it
 //!
 //! Everything public of `profile_rows`, `folded_text`, `profile_samples`, `call_tree`, `flame_report`, `op_book`,
-//! `log_audit` and `live_store`; of `pprof_profile` everything but `IdRange`.
+//! `log_audit` and `live_store`; of `pprof_profile` everything but `IdRange` and `NearTable`.
 //!
 //! The layers below these aren't in it: `basics`, the wire format (`pprof_wire`), the pages of trees (`shared_pages`),
 //! and the history of a store with its versions (`shown_versions`). Of them it has only what its calls take or give:
@@ -100,8 +100,10 @@ pub use pprof_profile::check;
 pub use pprof_profile::decode;
 pub use pprof_profile::encode;
 pub use pprof_profile::encode_around;
+pub use profile_rows::AsName;
 pub use profile_rows::StackText;
 pub use profile_rows::aggregate_stacks;
+pub use profile_rows::push_joined;
 pub use stack_text::AddedLines;
 pub use stack_text::Batch;
 pub use stack_text::BatchFault;

@@ -1,6 +1,6 @@
 //! What is kept for ids that lie close together.
 
-ghost use Rattle.std.specs.Prelude.{◌≡◌, ◌⊎◌, ◌+◌, ◌-◌, ◌*◌, ◌^◌, ◌<◌, ◌≤◌, ◌&&◌, ◌==◌, IfOk, Some, cond, ℕ};
+ghost use Rattle.std.specs.Prelude.{◌≡◌, ◌+◌, ◌-◌, ◌*◌, ◌^◌, ◌&&◌, ◌==◌, IfOk, Some, cond, max, min, nat_lt, ℕ};
 ghost use Rattle.std.specs.Option.{is_some};
 ghost use Rattle.pprof_profile.specs.NearTables.{AreAll, entry_of};
 
@@ -29,10 +29,7 @@ impl IdRange {
 
     /// The range with an id more.
     pub fn with(self, id: u64) -> IdRange
-        ensures id { (result.lowest ≤ id) × (id ≤ result.highest) }
-        ensures all { (result.lowest ≤ self.lowest) × (self.highest ≤ result.highest) }
-        ensures tight { ((result.lowest ≡ self.lowest) ⊎ (result.lowest ≡ id))
-            × ((result.highest ≡ self.highest) ⊎ (result.highest ≡ id)) }
+        ensures { result ≡ record { lowest = min self.lowest id; highest = max self.highest id } }
     {
         IdRange {
             lowest: self.lowest.min(id),
@@ -43,9 +40,8 @@ impl IdRange {
     /// How long a table over the range of so many ids is: as long as the range where that is at most two numbers for
     /// each id, else 0.
     fn table_len(self, count: usize) -> usize
-        ensures wide { 2 * count ≤ self.highest - self.lowest → result ≡ 0 }
-        ensures close { self.highest - self.lowest < 2 * count → self.highest - self.lowest + 1 < 2 ^ 64
-            → result ≡ self.highest - self.lowest + 1 }
+        ensures { result ≡ cond (nat_lt (self.highest - self.lowest) (2 * count))
+            (min (self.highest - self.lowest + 1) (2 ^ 64 - 1)) 0 }
     {
         let steps = self.highest.saturating_sub(self.lowest) as usize;
         if steps / 2 < count {

@@ -3,9 +3,10 @@ use Rattle.std.proofs.lemmas.Grind.{common_steps}
 use Rattle.std.proofs.Common.{◌≡◌, ℕ, ◌+◌, ◌<◌, ◌^◌, List, [], ◌∷◌, length, take, refl, sym, ap, ◌∙◌, subst, arith}
 use Rattle.std.proofs.lemmas.List.{length-map, take_all}
 use Rattle.profile_rows.specs.Values.{Row, row_in, rows_at, value_of, weighing}
+use Rattle.profile_rows.specs.Merging.{with_added_at}
 use Rattle.call_tree.specs.declared.node.Node.{Node}
 use Rattle.profile_rows.specs.Rows.{total_of}
-use Rattle.call_tree.specs.State.{PlainTree, TreeState, credited, nodes_at, plain_at}
+use Rattle.call_tree.specs.State.{PlainTree, TreeState, nodes_at, plain_at}
 use Rattle.call_tree.specs.Shape.{node_rows}
 use Rattle.call_tree.specs.Nodes.{AreTrees, AreTreesBut, nodes_of, plain_of, tree_of}
 use Rattle.call_tree.specs.Plans.{AreCredited, AreSlots, IsCredited}
@@ -52,7 +53,7 @@ module _ (names : List (List ℕ)) (before now : List (List Node))
       → ((other : ℕ) → (other ≡ value → ⊥) → nodes_of next other ≡ nodes_of now other)
       → AreAddedTo names before next batch (value + 1)
   AreAddedTo-step next trees width here others =
-      grind (arith, AreCredited-step, nodes_at-tree, trees, width, others, trees, width, credited, plain_is)
+      grind (arith, AreCredited-step, nodes_at-tree, trees, width, others, trees, width, with_added_at, plain_is)
 
 -- ---- one row of one value, at its node
 
@@ -80,7 +81,7 @@ module _ (names : List (List ℕ)) (before : List (List Node))
   row_within = grind (arith, common_steps, length-node_rows, IsCredited-start, credit_within, are, fits, first_lt)
 
   pub AreCredited-row : (now : List (List Node)) → length now ≡ length before
-      → node_rows names (nodes_of now 0) ≡ credited (node_rows names (nodes_of before 0)) slot weight
+      → node_rows names (nodes_of now 0) ≡ with_added_at (node_rows names (nodes_of before 0)) slot weight
       → ((other : ℕ) → (other ≡ 0 → ⊥) → nodes_of now other ≡ nodes_of before other)
       → AreCredited (tree_of names before) (tree_of names now) rows 1
   AreCredited-row now width here others =

@@ -11,7 +11,7 @@ use Rattle.call_tree.specs.declared.node.Node.{Node}
 use Rattle.call_tree.specs.State.{name_at, stack_at}
 use Rattle.call_tree.specs.Shape.{Link, link_of, no_node, next_stack, stacks_from, node_rows, at}
 use Rattle.call_tree.specs.Shape.{IsTree}
-use Rattle.call_tree.proofs.Shapes.{node_rows-push, node_at-node_rows, length-node_rows, length-stacks_of}
+use Rattle.call_tree.proofs.Shapes.{node_rows-push, row_at-node_rows, length-node_rows, length-stacks_of}
 use Rattle.call_tree.proofs.Shapes.{length-map_link, get_or-links}
 
 -- ---- the root alone
@@ -87,7 +87,7 @@ module _ (names : List (List ℕ)) (nodes : List Node) (parent name : ℕ) (coun
   all = nodes ++ added_node ∷ []
 
   pub node_rows-added : node_rows names (nodes ++ added_node ∷ []) ≡ node_rows names nodes ++ added_row ∷ []
-  node_rows-added = grind (arith, common_steps, node_rows-push, node_at-node_rows, length-stacks_of, next_stack-below)
+  node_rows-added = grind (arith, common_steps, node_rows-push, row_at-node_rows, length-stacks_of, next_stack-below)
 
   at_old : (k : ℕ) → k < length nodes → at all k ≡ at nodes k
   at_old k lt = get_or_append_left nodes (added_node ∷ []) no_node k lt

@@ -8,8 +8,9 @@ use Rattle.std.proofs.lemmas.Bool.{cases_eq}
 use Rattle.profile_rows.specs.declared.weighted_stacks.WeightedStack.{WeightedStack}
 use Rattle.profile_rows.specs.Rows.{is_same_stack, weight_of, weight_if}
 use Rattle.profile_rows.proofs.RowLaws.{same_from_is_same_stack, is_same_stack-self}
+use Rattle.profile_rows.specs.Merging.{row_at}
 use Rattle.call_tree.specs.declared.node.Node.{Node}
-use Rattle.call_tree.specs.State.{name_at, node_at, stack_at}
+use Rattle.call_tree.specs.State.{name_at, stack_at}
 use Rattle.call_tree.specs.Shape.{node_rows, at, IsTree}
 use Rattle.call_tree.proofs.Shapes.{stack_at-child, stack_at-root}
 
@@ -31,7 +32,7 @@ weight_of-none (row ∷ rows) stack none =
 
 pub weight_of-at : (rows : List WeightedStack) (stack : List (List ℕ)) (k : ℕ)
     → k < length rows → stack_at rows k ≡ stack
-    → ((j : ℕ) → j < length rows → stack_at rows j ≡ stack → j ≡ k) → weight_of rows stack ≡ (node_at rows k).weight
+    → ((j : ℕ) → j < length rows → stack_at rows j ≡ stack → j ≡ k) → weight_of rows stack ≡ (row_at rows k).weight
 weight_of-at [] stack k lt e only = absurd (omega arith)
 weight_of-at (row ∷ rows) stack zero lt e only =
     let rest = weight_of-none rows stack (λ j h f. let no : suc j ≡ 0 = only (suc j) (omega arith) f in omega arith) in

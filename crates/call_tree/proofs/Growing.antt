@@ -10,8 +10,9 @@ use Rattle.std.proofs.lemmas.Bool.{cases_eq, ltb-true, ltb-false}
 use Rattle.profile_rows.specs.Values.{BatchState, IsBatch, Row, rows_at}
 use Rattle.profile_rows.specs.Aggregate.{Weighted, with_rows}
 use Rattle.profile_rows.proofs.FourValues.{value_of-past}
+use Rattle.profile_rows.specs.Merging.{no_row}
 use Rattle.call_tree.specs.State.{TreeState, PlainTree, AreGrown, AreStates, IsAppended, IsFresh, IsGrown, nodes_at}
-use Rattle.call_tree.specs.State.{plain_at, name_at, weights_of, no_row}
+use Rattle.call_tree.specs.State.{plain_at, name_at, weights_of}
 use Rattle.call_tree.specs.Plans.{AreCredited, AreFirstSlots, AreSlots, HasAdded, HasSameWeights, IsCredited}
 use Rattle.call_tree.proofs.Indexing.{IsGrown-added}
 use Rattle.call_tree.proofs.Trees.{nodes_at-past}

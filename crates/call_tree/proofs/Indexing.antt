@@ -12,7 +12,8 @@ use Rattle.profile_rows.specs.declared.weighted_stacks.WeightedStack.{WeightedSt
 use Rattle.profile_rows.specs.Names.{is_same_name}
 use Rattle.profile_rows.proofs.RowLaws.{weight_where-push, aggregate_of-same}
 use Rattle.profile_rows.proofs.SameNames.{same_from_is_same_name, is_same_name-self}
-use Rattle.call_tree.specs.State.{PlainTree, IsState, IsChild, IsIndex, IsGrown, same_key, name_at, no_row, node_at}
+use Rattle.profile_rows.specs.Merging.{no_row, row_at}
+use Rattle.call_tree.specs.State.{PlainTree, IsState, IsChild, IsIndex, IsGrown, same_key, name_at}
 use Rattle.call_tree.specs.State.{stack_at}
 
 pub IsIndex-look : (look other : ℕ × ℕ → Option ℕ) (tree : PlainTree)
@@ -97,7 +98,7 @@ module _ (tree : PlainTree) (parent name : ℕ)
   abbrev grown : PlainTree
   grown = record tree { nodes = tree.nodes ++ new_row ∷ [] }
 
-  kept_node : (k : ℕ) → k < length tree.nodes → node_at grown.nodes k ≡ node_at tree.nodes k
+  kept_node : (k : ℕ) → k < length tree.nodes → row_at grown.nodes k ≡ row_at tree.nodes k
   kept_node k lt = get_or_append_left tree.nodes (new_row ∷ []) no_row k lt
 
   kept_stack : (k : ℕ) → k < length tree.nodes → stack_at grown.nodes k ≡ stack_at tree.nodes k

@@ -8,7 +8,8 @@ use Rattle.profile_rows.specs.declared.weighted_stacks.WeightedStack.{WeightedSt
 use Rattle.profile_rows.specs.Rows.{total_of}
 use Rattle.profile_rows.specs.Aggregate.{Weighted, with_row, with_rows, aggregate_of}
 use Rattle.profile_rows.specs.Values.{Row, row_in, rows_at, value_of, weighing}
-use Rattle.call_tree.specs.State.{PlainTree, name_at, no_row, node_at, stack_at, credited, IsIndex}
+use Rattle.profile_rows.specs.Merging.{no_row, row_at, with_added_at}
+use Rattle.call_tree.specs.State.{PlainTree, name_at, stack_at, IsIndex}
 use Rattle.call_tree.specs.Plans.{AreSlots, HasSameNodes, IsCredited, slot_at}
 use Rattle.call_tree.proofs.Crediting.{length-credited, stack_at-credited, total_of-credited, aggregate_of-credited}
 
@@ -23,7 +24,7 @@ IsCredited-start tree = record { names = refl; size = refl; stacks = λ k. refl;
 -- ---- one row more
 
 row_is : (value : ℕ) (rows : List Row) (k : ℕ)
-    → k < length rows → node_at (rows_at value rows) k ≡ weighing value (row_in rows k)
+    → k < length rows → row_at (rows_at value rows) k ≡ weighing value (row_in rows k)
 row_is value rows k lt = get_or-map (weighing value) rows k (record { stack = []; weights = [] }) no_row lt
 
 module _ (before now : PlainTree) (value : ℕ) (rows : List Row) (slots : List ℕ) (are : AreSlots before rows slots)
@@ -36,7 +37,7 @@ module _ (before now : PlainTree) (value : ℕ) (rows : List Row) (slots : List 
   abbrev slot : ℕ
   slot = slot_at slots i
 
-  here : node_at (rows_at value rows) i ≡ weighing value (row_in rows i)
+  here : row_at (rows_at value rows) i ≡ weighing value (row_in rows i)
   here = row_is value rows i lt
 
   pub credit_within : slot_at slots i < length now.nodes
@@ -46,7 +47,7 @@ module _ (before now : PlainTree) (value : ℕ) (rows : List Row) (slots : List 
   credit_fits = grind (arith, common_steps, sum_by_more_le, in_rows, here)
 
   pub IsCredited-step : (next : PlainTree)
-      → next.names ≡ now.names → next.nodes ≡ credited now.nodes (slot_at slots i) weight
+      → next.names ≡ now.names → next.nodes ≡ with_added_at now.nodes (slot_at slots i) weight
       → IsCredited before next (take (i + 1) (rows_at value rows))
   IsCredited-step next names nodes = record {
     names = names ∙ done.names;
@@ -57,17 +58,17 @@ module _ (before now : PlainTree) (value : ℕ) (rows : List Row) (slots : List 
         let new : total_of next.nodes ≡ total_of now.nodes + weight = ap total_of nodes
         ∙ total_of-credited now.nodes slot weight credit_within in
         let part = sum_by_more (λ (row : WeightedStack). row.weight) (rows_at value rows) i no_row in_rows in
-        let weight_of_row : (node_at (rows_at value rows) i).weight ≡ weight = ap (λ row. row.weight) here
+        let weight_of_row : (row_at (rows_at value rows) i).weight ≡ weight = ap (λ row. row.weight) here
         ∙ sym weight_is in
         omega (arith, new, part, weight_of_row, done.total);
     weights =
-        let row_now : (record { stack = stack_at now.nodes slot; weight = weight }) ≡ node_at (rows_at value rows) i =
+        let row_now : (record { stack = stack_at now.nodes slot; weight = weight }) ≡ row_at (rows_at value rows) i =
         (λ j. record { stack = (done.stacks slot ∙ (are.each i lt).stack) j; weight = weight_is j }) ∙ sym here in
         ap aggregate_of nodes ∙ aggregate_of-credited now.nodes slot weight credit_within
         ∙ ap (λ m. with_row m (record { stack = stack_at now.nodes slot; weight = weight })) done.weights
         ∙ ap (with_row (with_rows (aggregate_of before.nodes) (take i (rows_at value rows)))) row_now
         ∙ sym
-        (with_rows-push (aggregate_of before.nodes) (take i (rows_at value rows)) (node_at (rows_at value rows) i))
+        (with_rows-push (aggregate_of before.nodes) (take i (rows_at value rows)) (row_at (rows_at value rows) i))
         ∙ ap (with_rows (aggregate_of before.nodes)) (sym (take_more (rows_at value rows) i no_row in_rows));
   }
 

@@ -7,12 +7,13 @@ use Rattle.std.proofs.lemmas.List.Sums.{get_or-le-sum_by}
 use Rattle.std.proofs.lemmas.Bool.{cases_eq}
 use Rattle.profile_rows.specs.declared.weighted_stacks.WeightedStack.{WeightedStack}
 use Rattle.profile_rows.specs.Rows.{total_of}
+use Rattle.profile_rows.specs.Merging.{no_row, row_at, with_added_at}
 use Rattle.call_tree.specs.declared.node.Node.{Node}
-use Rattle.call_tree.specs.State.{no_row, node_at, stack_at, credited}
+use Rattle.call_tree.specs.State.{stack_at}
 use Rattle.call_tree.specs.Shape.{node_rows, at, IsTree}
 use Rattle.call_tree.specs.Nodes.{with_weight, without_weight}
 use Rattle.call_tree.proofs.Crediting.{stack_at-credited, total_of-credited}
-use Rattle.call_tree.proofs.Shapes.{node_rows-set, node_at-node_rows, length-node_rows}
+use Rattle.call_tree.proofs.Shapes.{node_rows-set, row_at-node_rows, length-node_rows}
 
 abbrev heavier : Node → ℕ → Node
 heavier node weight = with_weight node (node.own + weight)
@@ -28,8 +29,8 @@ module _ (names : List (List ℕ)) (old : List Node) (start w : ℕ) (tree : IsT
   rows_lt : start < length (node_rows names old)
   rows_lt = omega (arith, length-node_rows names old, lt)
 
-  rows_done : node_rows names done ≡ credited (node_rows names old) start w
-  rows_done = grind (arith, common_steps, set, node_rows-set, node_at-node_rows)
+  rows_done : node_rows names done ≡ with_added_at (node_rows names old) start w
+  rows_done = grind (arith, common_steps, set, node_rows-set, row_at-node_rows)
 
   framed : (k : ℕ) → without_weight (at done k) ≡ without_weight (at old k)
   framed k = grind (arith, common_steps, get_or-set_same, get_or-set_other, cases_eq)
@@ -47,7 +48,7 @@ module _ (names : List (List ℕ)) (old : List Node) (start w : ℕ) (tree : IsT
 
 pub record IsDone (names : List (List ℕ)) (old last : List Node) (start w : ℕ) : Type 0 where
   pub tree : IsTree names last
-  pub rows : node_rows names last ≡ credited (node_rows names old) start w
+  pub rows : node_rows names last ≡ with_added_at (node_rows names old) start w
 
 pub finished : (names : List (List ℕ)) (old last : List Node) (start w own : ℕ)
     → IsTree names old → start < length old
@@ -63,8 +64,8 @@ finished names old last start w own tree lt fits read wrote =
 pub weight_fits : (names : List (List ℕ)) (old : List Node) (start w own : ℕ) → start < length old
     → total_of (node_rows names old) + w < 2 ^ 63 → own ≡ (at old start).own → own + w < 2 ^ 63
 weight_fits names old start w own lt fits read =
-    let row : (node_at (node_rows names old) start).weight ≡ (at old start).own =
-    ap (λ row. row.weight) (node_at-node_rows names old start) in
+    let row : (row_at (node_rows names old) start).weight ≡ (at old start).own =
+    ap (λ row. row.weight) (row_at-node_rows names old start) in
     let part = get_or-le-sum_by (λ (row : WeightedStack). row.weight)
     (node_rows names old) start no_row (omega (arith, length-node_rows names old, lt)) in
     omega (arith, read, row, part, fits)

@@ -6,8 +6,9 @@ use Rattle.std.proofs.Math.ListN.{set}
 use Rattle.std.proofs.Math.Seq.{map-set_same}
 use Rattle.std.proofs.lemmas.List.{get_or_append_left, get_or_push, map_push, same_from_push}
 use Rattle.profile_rows.specs.declared.weighted_stacks.WeightedStack.{WeightedStack}
+use Rattle.profile_rows.specs.Merging.{row_at}
 use Rattle.call_tree.specs.declared.node.Node.{Node}
-use Rattle.call_tree.specs.State.{name_at, node_at, stack_at, IsState}
+use Rattle.call_tree.specs.State.{name_at, stack_at, IsState}
 use Rattle.call_tree.specs.Shape.{Link, link_of, no_node, next_stack, stacks_from, stacks_of, rows_with, node_rows, at}
 use Rattle.call_tree.specs.Shape.{IsTree}
 
@@ -67,17 +68,17 @@ length-rows_with (stack ∷ stacks) (node ∷ nodes) e =
 pub length-node_rows : (names : List (List ℕ)) (nodes : List Node) → length (node_rows names nodes) ≡ length nodes
 length-node_rows names nodes = length-rows_with (stacks_of names nodes) nodes (length-stacks_of names nodes)
 
-pub node_at-rows_with : (stacks : List (List (List ℕ))) (nodes : List Node) (k : ℕ) → length stacks ≡ length nodes
-    → node_at (rows_with stacks nodes) k ≡ row_with (get_or stacks k []) (at nodes k)
-node_at-rows_with [] [] k e = refl
-node_at-rows_with [] (node ∷ nodes) k e = absurd (omega arith)
-node_at-rows_with (stack ∷ stacks) [] k e = absurd (omega arith)
-node_at-rows_with (stack ∷ stacks) (node ∷ nodes) zero e = refl
-node_at-rows_with (stack ∷ stacks) (node ∷ nodes) (suc k) e = node_at-rows_with stacks nodes k (omega arith)
+pub row_at-rows_with : (stacks : List (List (List ℕ))) (nodes : List Node) (k : ℕ) → length stacks ≡ length nodes
+    → row_at (rows_with stacks nodes) k ≡ row_with (get_or stacks k []) (at nodes k)
+row_at-rows_with [] [] k e = refl
+row_at-rows_with [] (node ∷ nodes) k e = absurd (omega arith)
+row_at-rows_with (stack ∷ stacks) [] k e = absurd (omega arith)
+row_at-rows_with (stack ∷ stacks) (node ∷ nodes) zero e = refl
+row_at-rows_with (stack ∷ stacks) (node ∷ nodes) (suc k) e = row_at-rows_with stacks nodes k (omega arith)
 
-pub node_at-node_rows : (names : List (List ℕ)) (nodes : List Node) (k : ℕ)
-    → node_at (node_rows names nodes) k ≡ row_with (get_or (stacks_of names nodes) k []) (at nodes k)
-node_at-node_rows names nodes k = node_at-rows_with (stacks_of names nodes) nodes k (length-stacks_of names nodes)
+pub row_at-node_rows : (names : List (List ℕ)) (nodes : List Node) (k : ℕ)
+    → row_at (node_rows names nodes) k ≡ row_with (get_or (stacks_of names nodes) k []) (at nodes k)
+row_at-node_rows names nodes k = row_at-rows_with (stacks_of names nodes) nodes k (length-stacks_of names nodes)
 
 pub rows_with-push : (stacks : List (List (List ℕ))) (nodes : List Node) (stack : List (List ℕ)) (node : Node)
     → length stacks ≡ length nodes
@@ -143,14 +144,14 @@ pub stack_at-child : (names : List (List ℕ)) (nodes : List Node) (k : ℕ)
     → 0 < k → k < length nodes → (at nodes k).parent < k
     → stack_at (node_rows names nodes) k
     ≡ stack_at (node_rows names nodes) (at nodes k).parent ++ name_at names (at nodes k).name ∷ []
-stack_at-child names nodes k pos lt low = grind (arith, common_steps, node_at-node_rows, stack_of_child)
+stack_at-child names nodes k pos lt low = grind (arith, common_steps, row_at-node_rows, stack_of_child)
 
 root_stack : (names : List (List ℕ)) (links : List Link) → get_or (stacks_from names [] links) 0 [] ≡ []
 root_stack names [] = refl
 root_stack names (link ∷ links) = stacks_from-kept names ([] ∷ []) links 0 [] (omega arith)
 
 pub stack_at-root : (names : List (List ℕ)) (nodes : List Node) → stack_at (node_rows names nodes) 0 ≡ []
-stack_at-root names nodes = ap (λ row. row.stack) (node_at-node_rows names nodes 0)
+stack_at-root names nodes = ap (λ row. row.stack) (row_at-node_rows names nodes 0)
     ∙ root_stack names (map link_of nodes)
 
 -- ---- what contracts know

@@ -15,13 +15,14 @@ use Rattle.profile_rows.specs.Names.{is_same_name}
 use Rattle.profile_rows.specs.Rows.{has_name, ends_with_name, total_of, weight_if, weight_where, flat_weight_of}
 use Rattle.profile_rows.specs.Rows.{cumulative_weight_of}
 use Rattle.profile_rows.proofs.SameNames.{same_from_is_same_name, is_same_name-self}
+use Rattle.profile_rows.specs.Merging.{no_row, row_at, with_added_at}
 use Rattle.call_tree.specs.declared.node.Node.{Node}
 use Rattle.call_tree.specs.declared.tree.reading.Sums.{Sums}
-use Rattle.call_tree.specs.State.{name_at, no_row, node_at, stack_at, credited}
+use Rattle.call_tree.specs.State.{name_at, stack_at}
 use Rattle.call_tree.specs.Shape.{no_node, node_rows, at, IsTree}
 use Rattle.call_tree.specs.Totals.{AreSums, IsAddable, below_with, no_sums, sums_in, sums_with}
 use Rattle.call_tree.proofs.Crediting.{total_of-credited, weight_where-credited}
-use Rattle.call_tree.proofs.Shapes.{node_at-node_rows, stack_at-child, stack_at-root, length-node_rows}
+use Rattle.call_tree.proofs.Shapes.{row_at-node_rows, stack_at-child, stack_at-root, length-node_rows}
 use Rattle.call_tree.proofs.Paths.{has_name-next, same_bool}
 
 abbrev pub own_if : ℕ → Node → ℕ
@@ -59,7 +60,7 @@ same_number names n m hn hm unlike =
 
 sum_both : (f : WeightedStack → ℕ) (g : Node → ℕ) (rows : List WeightedStack) (nodes : List Node)
     → length rows ≡ length nodes
-    → ((k : ℕ) → k < length nodes → f (node_at rows k) ≡ g (at nodes k)) → sum_by f rows ≡ sum_by g nodes
+    → ((k : ℕ) → k < length nodes → f (row_at rows k) ≡ g (at nodes k)) → sum_by f rows ≡ sum_by g nodes
 sum_both f g [] [] e h = refl
 sum_both f g [] (n ∷ ns) e h = absurd (omega arith)
 sum_both f g (r ∷ rs) [] e h = absurd (omega arith)
@@ -69,8 +70,8 @@ sum_both f g (r ∷ rs) (n ∷ ns) e h =
     omega (arith, rest, here, sum_by-cons f r rs, sum_by-cons g n ns)
 
 sum_below_root : (f : WeightedStack → ℕ) (g : Node → ℕ) (rows : List WeightedStack) (nodes : List Node)
-    → length rows ≡ length nodes → 0 < length nodes → f (node_at rows 0) ≡ 0
-    → ((k : ℕ) → 0 < k → k < length nodes → f (node_at rows k) ≡ g (at nodes k))
+    → length rows ≡ length nodes → 0 < length nodes → f (row_at rows 0) ≡ 0
+    → ((k : ℕ) → 0 < k → k < length nodes → f (row_at rows k) ≡ g (at nodes k))
     → sum_by f rows + g (at nodes 0) ≡ sum_by g nodes
 sum_below_root f g [] [] e pos z h = absurd (omega arith)
 sum_below_root f g [] (n ∷ ns) e pos z h = absurd (omega arith)
@@ -93,8 +94,8 @@ length-rows_below (row ∷ rows) [] = refl
 length-rows_below (row ∷ rows) (more ∷ below) = ap (λ k. suc k) (length-rows_below rows below)
 
 at-rows_below : (rows : List WeightedStack) (below : List ℕ) (k : ℕ) → length below ≡ length rows → k < length rows
-    → node_at (rows_below rows below) k
-    ≡ record { stack = stack_at rows k; weight = (node_at rows k).weight + get_or below k 0 }
+    → row_at (rows_below rows below) k
+    ≡ record { stack = stack_at rows k; weight = (row_at rows k).weight + get_or below k 0 }
 at-rows_below [] below k size lt = absurd (omega arith)
 at-rows_below (row ∷ rows) [] k size lt = absurd (omega arith)
 at-rows_below (row ∷ rows) (more ∷ below) zero size lt = refl
@@ -102,7 +103,7 @@ at-rows_below (row ∷ rows) (more ∷ below) (suc k) size lt = at-rows_below ro
 
 rows_below-set : (rows : List WeightedStack) (below : List ℕ) (k more : ℕ)
     → length below ≡ length rows → k < length rows
-    → rows_below rows (set below k (get_or below k 0 + more)) ≡ credited (rows_below rows below) k more
+    → rows_below rows (set below k (get_or below k 0 + more)) ≡ with_added_at (rows_below rows below) k more
 rows_below-set [] below k more size lt = absurd (omega arith)
 rows_below-set (row ∷ rows) [] k more size lt = absurd (omega arith)
 rows_below-set (row ∷ rows) (first ∷ below) zero more size lt = grind (arith, common_steps)
@@ -135,8 +136,8 @@ and_false true x = refl
 and_false false x = refl
 
 module _ (names : List (List ℕ)) (nodes : List Node) (tree : IsTree names nodes) where
-  own_is : (k : ℕ) → (node_at (node_rows names nodes) k).weight ≡ (at nodes k).own
-  own_is k = ap (λ row. row.weight) (node_at-node_rows names nodes k)
+  own_is : (k : ℕ) → (row_at (node_rows names nodes) k).weight ≡ (at nodes k).own
+  own_is k = ap (λ row. row.weight) (row_at-node_rows names nodes k)
 
   total_of-own : total_of (node_rows names nodes) ≡ sum_by (λ node. node.own) nodes
   total_of-own = sum_both (λ (row : WeightedStack). row.weight)
@@ -146,7 +147,7 @@ module _ (names : List (List ℕ)) (nodes : List Node) (tree : IsTree names node
       → flat_weight_of (node_rows names nodes) (name_at names n) + own_if n (at nodes 0) ≡ sum_by (own_if n) nodes
   flat_is n lt = sum_below_root (weight_if (ends_with_name (name_at names n)))
       (own_if n) (node_rows names nodes) nodes (length-node_rows names nodes) tree.rooted
-      (ap (λ stack. cond (ends_with_name (name_at names n) stack) (node_at (node_rows names nodes) 0).weight 0)
+      (ap (λ stack. cond (ends_with_name (name_at names n) stack) (row_at (node_rows names nodes) 0).weight 0)
       (stack_at-root names nodes))
       (λ k pos h. let low = tree.links k pos h in
       (λ i. cond ((ap (ends_with_name (name_at names n)) (stack_at-child names nodes k pos h low.0)
@@ -208,7 +209,7 @@ module _ (names : List (List ℕ)) (nodes : List Node) (tree : IsTree names node
     rows_lt : k < length rows
     rows_lt = omega (arith, lt, length-rows_below (node_rows names nodes) below, length-node_rows names nodes)
 
-    row_is : (j : ℕ) → j ≤ k → node_at rows j
+    row_is : (j : ℕ) → j ≤ k → row_at rows j
         ≡ record { stack = stack_at (node_rows names nodes) j; weight = (at nodes j).own + get_or below j 0 }
     row_is j le = grind (arith, common_steps, length-node_rows, wide, at-rows_below, own_is, lt, wide)
 
@@ -222,7 +223,7 @@ module _ (names : List (List ℕ)) (nodes : List Node) (tree : IsTree names node
     whole_is = sym so_far.whole ∙ sum_by_more (λ (row : WeightedStack). row.weight) rows k no_row rows_lt
         ∙ ap (λ (row : WeightedStack). total_of (take k rows) + row.weight) (row_is k (omega arith))
 
-    parent_row : node_at (take k rows) node.parent ≡ record {
+    parent_row : row_at (take k rows) node.parent ≡ record {
       stack =
           stack_at (node_rows names nodes) node.parent;
       weight = (at nodes node.parent).own + get_or below node.parent 0;
@@ -268,10 +269,10 @@ module _ (names : List (List ℕ)) (nodes : List Node) (tree : IsTree names node
     -- ---- the node's weight added to its parent's, and to the sums of its name
 
     next_rows : take k (with_below names nodes (set below node.parent (get_or below node.parent 0 + weight)))
-        ≡ credited (take k rows) node.parent weight
+        ≡ with_added_at (take k rows) node.parent weight
     next_rows = grind (arith, set, take-set-lt, get_or-take, length-node_rows, wide, rows_below-set, lt, links, wide)
 
-    next_where : (test : List (List ℕ) → Bool) → weight_where test (credited (take k rows) node.parent weight)
+    next_where : (test : List (List ℕ) → Bool) → weight_where test (with_added_at (take k rows) node.parent weight)
         ≡ weight_where test (take k rows) + cond (test (stack_at (node_rows names nodes) node.parent)) weight 0
     next_where test = grind (arith, common_steps, weight_where-credited, links, parent_row, length-before)
 
@@ -366,6 +367,6 @@ module _ (names : List (List ℕ)) (nodes : List Node) (tree : IsTree names node
             let stack : stack_at rows 0 ≡ [] = ap (λ row. row.stack)
             (at-rows_below (node_rows names nodes) below 0 (so_far.wide ∙ sym (length-node_rows names nodes))
             (omega (arith, tree.rooted, length-node_rows names nodes))) ∙ stack_at-root names nodes in
-            let none = ap (λ s. cond (has_name (name_at names n) s) (node_at rows 0).weight 0) stack in
+            let none = ap (λ s. cond (has_name (name_at names n) s) (row_at rows 0).weight 0) stack in
             omega (arith, c, root, none);
       }

@@ -14,7 +14,8 @@ use Rattle.profile_rows.specs.declared.weighted_stacks.WeightedStack.{WeightedSt
 use Rattle.profile_rows.specs.Aggregate.{AreWeighty, aggregate_of}
 use Rattle.profile_rows.specs.Names.{IsName}
 use Rattle.profile_rows.specs.StackTexts.{AreStackTexts, joined_row, plain_text}
-use Rattle.call_tree.specs.State.{PlainTree, IsState, has_weight, no_row, node_at, stack_at}
+use Rattle.profile_rows.specs.Merging.{no_row, row_at}
+use Rattle.call_tree.specs.State.{PlainTree, IsState, has_weight, stack_at}
 use Rattle.profile_rows.proofs.EntryLaws.{weight_where-same}
 use Rattle.call_tree.proofs.Weighty.{aggregate_of-weighty, weighted, weightless}
 
@@ -37,7 +38,7 @@ AreSpelled-push rows before next row text so_far text_is named next_is = record 
 -- ---- the loop's step
 
 module _ (nodes : List WeightedStack) (before next : List StackText)
-    (k weight : ℕ) (lt : k < length nodes) (weight_is : weight ≡ (node_at nodes k).weight)
+    (k weight : ℕ) (lt : k < length nodes) (weight_is : weight ≡ (row_at nodes k).weight)
     (so_far : AreSpelled (filter has_weight (take k nodes)) before) where
   pub text_more : 0 < weight → (text : StackText) → text.weight ≡ weight → string_bytes text.text
       ≡ join_with_byte 59 (stack_at nodes k) → All IsName (stack_at nodes k) → next ≡ before ++ text ∷ []

@@ -11,7 +11,8 @@ use Rattle.profile_rows.specs.Values.{BatchState, value_of}
 use Rattle.profile_rows.proofs.FourValues.{value_of-past}
 use Rattle.profile_rows.proofs.EntryLaws.{weight_where-rows_of}
 use Rattle.profile_rows.proofs.RowLaws.{weight_in-aggregate_of}
-use Rattle.call_tree.specs.State.{TreeState, AreGrown, AreStates, weights_of, total_in, no_row, nodes_at, node_at}
+use Rattle.profile_rows.specs.Merging.{no_row, row_at}
+use Rattle.call_tree.specs.State.{TreeState, AreGrown, AreStates, weights_of, total_in, nodes_at}
 use Rattle.call_tree.specs.State.{stack_at}
 use Rattle.call_tree.specs.Nodes.{HasTotal}
 use Rattle.call_tree.specs.Plans.{AreCredited}
@@ -39,7 +40,7 @@ module _ (tree : TreeState) (states : AreStates tree) where
   pub weight_in-found : (stack : List (List ℕ)) (value slot : ℕ)
       → value < tree.width → slot < length (nodes_at tree 0)
       → stack_at (nodes_at tree 0) slot ≡ stack
-      → weight_in (weights_of tree value) stack ≡ (node_at (nodes_at tree value) slot).weight
+      → weight_in (weights_of tree value) stack ≡ (row_at (nodes_at tree value) slot).weight
   weight_in-found stack value slot lt within here =
       let rows = nodes_at tree value in
       let size = states.sizes value lt in

@@ -12,7 +12,7 @@ use Rattle.call_tree.specs.State.{TreeState, PlainTree, AreStates, IsAppended, I
 use Rattle.call_tree.specs.State.{plain_at, stack_at}
 use Rattle.call_tree.specs.Shape.{IsTree, link_of, node_rows}
 use Rattle.call_tree.specs.Nodes.{AreAlike, AreTrees, AreTreesBut, nodes_of, tree_of, without_weight}
-use Rattle.call_tree.proofs.Shapes.{IsState-tree, length-node_rows, node_at-node_rows}
+use Rattle.call_tree.proofs.Shapes.{IsState-tree, length-node_rows, row_at-node_rows}
 use Rattle.call_tree.proofs.Appending.{IsTree-added, node_rows-added, node_rows-named}
 
 pub nodes_at-tree : (names : List (List ℕ)) (all : List (List Node)) (value : ℕ)
@@ -60,7 +60,7 @@ links-without (n ∷ nodes) = ap (λ rest. link_of n ∷ rest) (links-without no
 pub stack_at-alike : (names : List (List ℕ)) (nodes others : List Node) (k : ℕ)
     → map without_weight nodes ≡ map without_weight others
     → stack_at (node_rows names nodes) k ≡ stack_at (node_rows names others) k
-stack_at-alike names nodes others k e = grind (arith, common_steps, node_at-node_rows, links-without)
+stack_at-alike names nodes others k e = grind (arith, common_steps, row_at-node_rows, links-without)
 
 pub length-alike : (nodes others : List Node)
     → map without_weight nodes ≡ map without_weight others → length nodes ≡ length others

@@ -9,7 +9,8 @@ use Rattle.profile_rows.specs.declared.weighted_stacks.WeightedStack.{WeightedSt
 use Rattle.profile_rows.specs.Rows.{weight_of}
 use Rattle.profile_rows.specs.Aggregate.{aggregate_of}
 use Rattle.profile_rows.proofs.RowLaws.{aggregate_of-same}
-use Rattle.call_tree.specs.State.{node_at, stack_at, has_weight}
+use Rattle.profile_rows.specs.Merging.{row_at}
+use Rattle.call_tree.specs.State.{stack_at, has_weight}
 
 -- ---- the loop's step
 
@@ -19,11 +20,11 @@ filter_append [] ys = refl
 filter_append (x ∷ xs) ys = grind (arith, common_steps, filter_append xs ys)
 
 module _ (nodes before next : List WeightedStack) (k weight : ℕ) (lt : k < length nodes)
-    (weight_is : weight ≡ (node_at nodes k).weight) (done : before ≡ filter has_weight (take k nodes)) where
+    (weight_is : weight ≡ (row_at nodes k).weight) (done : before ≡ filter has_weight (take k nodes)) where
   more : filter has_weight (take (k + 1) nodes)
-      ≡ filter has_weight (take k nodes) ++ filter has_weight (node_at nodes k ∷ [])
+      ≡ filter has_weight (take k nodes) ++ filter has_weight (row_at nodes k ∷ [])
   more = ap (filter has_weight) (take_more nodes k (record { stack = []; weight = 0 }) lt)
-      ∙ filter_append (take k nodes) (node_at nodes k ∷ [])
+      ∙ filter_append (take k nodes) (row_at nodes k ∷ [])
 
   pub weighted : 0 < weight → (stack : List (List ℕ))
       → stack ≡ stack_at nodes k → next ≡ before ++ (record { stack = stack; weight = weight }) ∷ []

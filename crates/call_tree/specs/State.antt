@@ -1,8 +1,9 @@
 -- What contracts see of a tree.
-use Rattle.std.specs.Prelude.{ℕ, ◌≡◌, ◌<◌, ◌≤◌, ◌+◌, ◌^◌, Bool, ◌&&◌, not, nat_eq, nat_lt, Option, Some, List, [], ◌∷◌}
-use Rattle.std.specs.Prelude.{◌++◌, length, slice_index_or, slice_set}
+use Rattle.std.specs.Prelude.{ℕ, ◌≡◌, ◌<◌, ◌≤◌, ◌^◌, Bool, ◌&&◌, not, nat_eq, nat_lt, Option, Some, List, [], ◌∷◌}
+use Rattle.std.specs.Prelude.{◌++◌, length, slice_index_or}
 use Rattle.profile_rows.specs.declared.weighted_stacks.WeightedStack.{WeightedStack}
 use Rattle.profile_rows.specs.Limits.{most_frames}
+use Rattle.profile_rows.specs.Merging.{row_at}
 use Rattle.profile_rows.specs.Rows.{has_name, total_of}
 use Rattle.profile_rows.specs.Aggregate.{Weighted, aggregate_of, rows_of}
 
@@ -37,22 +38,11 @@ total_in weights = total_of (rows_of weights)
 abbrev pub name_at : List (List ℕ) → ℕ → List ℕ
 name_at names number = slice_index_or names number []
 
-abbrev pub no_row : WeightedStack
-no_row = record { stack = []; weight = 0 }
-
-abbrev pub node_at : List WeightedStack → ℕ → WeightedStack
-node_at nodes at = slice_index_or nodes at no_row
-
 abbrev pub stack_at : List WeightedStack → ℕ → List (List ℕ)
-stack_at nodes at = (node_at nodes at).stack
+stack_at nodes at = (row_at nodes at).stack
 
 abbrev pub has_weight : WeightedStack → Bool
 has_weight row = nat_lt 0 row.weight
-
--- the nodes after one more weight at a node
-abbrev pub credited : List WeightedStack → ℕ → ℕ → List WeightedStack
-credited nodes at weight =
-    slice_set nodes at (record { stack = stack_at nodes at; weight = (node_at nodes at).weight + weight })
 
 -- a node and a name that make up a stack
 pub record HasParent (tree : PlainTree) (stack : List (List ℕ)) (name : List ℕ) : Type 0 where
@@ -91,7 +81,7 @@ pub record AreStates (tree : TreeState) : Type 0 where
 -- the tree after some more names and some more nodes of weight 0
 pub record IsGrown (before after : PlainTree) : Type 0 where
   pub longer : length before.nodes ≤ length after.nodes
-  pub kept : (k : ℕ) → k < length before.nodes → node_at after.nodes k ≡ node_at before.nodes k
+  pub kept : (k : ℕ) → k < length before.nodes → row_at after.nodes k ≡ row_at before.nodes k
   pub weights : aggregate_of after.nodes ≡ aggregate_of before.nodes
   pub total : total_of after.nodes ≡ total_of before.nodes
   pub more_names : length before.names ≤ length after.names

@@ -3,7 +3,8 @@
 ghost use Rattle.std.specs.Prelude.{◌≡◌, ◌<◌, ◌+◌, ◌++◌, ◌∷◌, ◌^◌, ℕ, [], length, IfOk, IfSome, OnOk, OnErr};
 ghost use Rattle.profile_rows.specs.Rows.{total_of};
 ghost use Rattle.profile_rows.specs.Values.{value_of, rows_at};
-ghost use Rattle.call_tree.specs.State.{TreeState, weights_of, total_in, nodes_at, plain_at, name_at, credited};
+ghost use Rattle.profile_rows.specs.Merging.{with_added_at};
+ghost use Rattle.call_tree.specs.State.{TreeState, weights_of, total_in, nodes_at, plain_at, name_at};
 ghost use Rattle.call_tree.specs.State.{IsAppended, IsChild, IsFresh, AreStates};
 ghost use Rattle.call_tree.specs.Nodes.{AreTrees, AreTreesBut, nodes_of, plain_of};
 ghost use Rattle.call_tree.specs.Shape.{node_rows};
@@ -257,7 +258,7 @@ fn add_weight(
     requires fits { total_of (node_rows names.now (nodes_of nodes.old value)) + weight < 2 ^ 63 }
     ensures trees { OnOk result (AreTreesBut names.now value nodes.old nodes.new) }
     ensures nodes { OnOk result (node_rows names.now (nodes_of nodes.new value)
-        ≡ credited (node_rows names.now (nodes_of nodes.old value)) at weight) }
+        ≡ with_added_at (node_rows names.now (nodes_of nodes.old value)) at weight) }
     ensures err { OnErr result (nodes.new ≡ nodes.old) }
 {
     // Only the clauses speak of the names.

@@ -13,6 +13,7 @@ use Rattle.std.proofs.lemmas.List.{get_or-map, length-map}
 use Rattle.std.proofs.lemmas.List.Sums.{sum_by-cons}
 use Rattle.profile_rows.specs.declared.stack_texts.StackText.{StackText}
 use Rattle.profile_rows.specs.declared.weighted_stacks.WeightedStack.{WeightedStack}
+use Rattle.profile_rows.specs.Merging.{no_row}
 use Rattle.profile_rows.specs.Names.{IsName}
 use Rattle.profile_rows.specs.StackTexts.{AreStackTexts, TextState, joined_row, plain_text}
 use Rattle.profile_rows.proofs.SameNames.{same_from_is_same_name}
@@ -47,9 +48,6 @@ once (row ∷ rows) apart text =
     grind (arith, common_steps, sum_by-cons, same_from_is_same_name text row.text, most, alone)
 
 -- ---- the rows that texts spell
-
-abbrev no_row : WeightedStack
-no_row = record { stack = []; weight = 0 }
 
 -- a joined stack of names, cut again, is the stack
 cut_again : (row : WeightedStack) → Named row → frames_of (join_with_byte 59 row.stack) ≡ row.stack

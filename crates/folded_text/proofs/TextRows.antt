@@ -18,7 +18,7 @@ use Rattle.std.proofs.Math.Seq.{map-set_same}
 use Prim.Native.Nat.{zero, suc}
 use Rattle.profile_rows.specs.declared.weighted_stacks.WeightedStack.{WeightedStack}
 use Rattle.profile_rows.specs.Aggregate.{AreWeighty, IsAscending, aggregate_of, rows_of}
-use Rattle.profile_rows.specs.Merging.{IsStackAt, row_at, with_added_at}
+use Rattle.profile_rows.specs.Merging.{IsStackAt, no_row, row_at, with_added_at}
 use Rattle.profile_rows.specs.Rows.{is_kept, kept_rows, stack_cmp, total_of}
 use Rattle.profile_rows.proofs.InOrder.{rows_of-aggregate}
 use Rattle.profile_rows.proofs.MergedRows.{AddsRow-added}
@@ -80,9 +80,6 @@ IsJoined-measured text whole =
     sym (join_with_byte-slice_split 59 text) ∙ ap (join_with_byte 59) (sym all)
 
 -- ---- rows known by their texts
-
-abbrev no_row : WeightedStack
-no_row = record { stack = []; weight = 0 }
 
 abbrev has : List ℕ → TextState → ℕ
 has text row = cond (bytes_eq text row.text) 1 0

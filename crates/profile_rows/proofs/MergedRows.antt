@@ -5,14 +5,9 @@ use Rattle.std.proofs.Common.{sym, ap, ◌∙◌, arith}
 use Rattle.profile_rows.specs.declared.weighted_stacks.WeightedStack.{WeightedStack}
 use Rattle.profile_rows.specs.Aggregate.{aggregate_of}
 use Rattle.profile_rows.specs.Rows.{is_same_stack, total_of, weight_if, weight_of}
-use Rattle.profile_rows.specs.Merging.{AddsRow, AreMergedSoFar, row_at}
-use Rattle.profile_rows.specs.Merging.{with_added_at}
+use Rattle.profile_rows.specs.Merging.{AddsRow, AreMergedSoFar, no_row, row_at, with_added_at}
 use Rattle.profile_rows.proofs.RowLaws.{aggregate_of-same, weight_where-set, weight_where-push}
 use Rattle.std.proofs.lemmas.List.Sums.{sum_by-set, sum_by_push}
-
--- the row at an index, of which the stack weighs more, or the same
-abbrev no_row : WeightedStack
-no_row = record { stack = []; weight = 0 }
 
 added_if : (test : List (List ℕ) → Bool) (stack : List (List ℕ)) (a b : ℕ)
     → weight_if test (record { stack = stack; weight = a + b })

@@ -16,12 +16,9 @@ use Rattle.std.proofs.lemmas.List.Sums.{sum_by-cons}
 use Rattle.std.proofs.lemmas.List.{get_or_default}
 use Rattle.profile_rows.specs.declared.weighted_stacks.WeightedStack.{WeightedStack}
 use Rattle.profile_rows.specs.Aggregate.{AreWeighty, IsAscending}
-use Rattle.profile_rows.specs.Merging.{AddsRow, AreSumsUpTo, AreUpTo, by_stack, row_at}
+use Rattle.profile_rows.specs.Merging.{AddsRow, AreSumsUpTo, AreUpTo, by_stack, no_row, row_at}
 use Rattle.profile_rows.specs.Rows.{is_same_stack, stack_cmp, total_of, weight_if, weight_of}
 use Rattle.profile_rows.proofs.RowLaws.{stack_cmp_apart, stack_cmp_total}
-
-abbrev pub no_row : WeightedStack
-no_row = record { stack = []; weight = 0 }
 
 abbrev lower : WeightedStack → WeightedStack → Bool
 lower row other = is_lt (by_stack row other)

@@ -8,9 +8,13 @@ use Rattle.profile_rows.specs.Limits.{most_frames}
 use Rattle.profile_rows.specs.Rows.{is_same_stack, stack_cmp, total_of, weight_if, weight_of}
 use Rattle.profile_rows.specs.Aggregate.{AreWeighty, IsAscending}
 
+-- a row without frames and weight
+abbrev pub no_row : WeightedStack
+no_row = record { stack = []; weight = 0 }
+
 -- the row at an index; past the end one without frames and weight
 abbrev pub row_at : List WeightedStack → ℕ → WeightedStack
-row_at rows at = slice_index_or rows at (record { stack = []; weight = 0 })
+row_at rows at = slice_index_or rows at no_row
 
 -- the rows, of which the one at an index weighs so much more
 abbrev pub with_added_at : List WeightedStack → ℕ → ℕ → List WeightedStack

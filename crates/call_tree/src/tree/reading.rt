@@ -8,7 +8,8 @@ ghost use Rattle.profile_rows.specs.StackTexts.{AreStackTexts};
 ghost use Rattle.profile_rows.specs.Aggregate.{AreRowsOf, aggregates_of, weight_in, with_rows, rows_of};
 ghost use Rattle.profile_rows.specs.TopList.{AreSumsOf};
 ghost use Rattle.profile_rows.specs.Values.{value_of};
-ghost use Rattle.call_tree.specs.State.{weights_of, node_at, nodes_at, plain_at, stack_at, has_weight};
+ghost use Rattle.profile_rows.specs.Merging.{row_at};
+ghost use Rattle.call_tree.specs.State.{weights_of, nodes_at, plain_at, stack_at, has_weight};
 ghost use Rattle.call_tree.specs.Totals.{IsAddable, below_with, sums_with};
 
 use super::CallTree;
@@ -65,7 +66,7 @@ impl CallTree {
     fn weight(&self, value: u32, slot: usize) -> u64
         requires value { value < self.now.width }
         requires within { slot < length (nodes_at self.now 0) }
-        ensures { result ≡ (node_at (nodes_at self.now value) slot).weight }
+        ensures { result ≡ (row_at (nodes_at self.now value) slot).weight }
     {
         self.facts();
         self.nodes.weight(value, slot)

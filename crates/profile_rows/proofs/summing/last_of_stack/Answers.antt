@@ -3,10 +3,9 @@ use Rattle.std.proofs.Common.{◌≡◌, ◌-◌, true, false, length, arith, ap
 use Rattle.std.specs.Prelude.{◌==◌, slice_index_or}
 use lib.Pointwise.{pointwise, pointwise_decides}
 use Rattle.std.proofs.lemmas.List.{get_or_default}
-use Rattle.profile_rows.specs.Merging.{row_at}
+use Rattle.profile_rows.specs.Merging.{no_row, row_at}
 use Rattle.profile_rows.specs.declared.weighted_stacks.WeightedStack.{WeightedStack}
 use Rattle.profile_rows.proofs.EqualRows.{is_same_name-decides}
-use Rattle.profile_rows.proofs.PuttingTogether.{no_row}
 use Rattle.profile_rows.proofs.summing.last_of_stack.Goals.{else-count-gt0-via-then-count-gt0+else-eq}
 use Rattle.profile_rows.proofs.summing.last_of_stack.Goals.{else-count-gt0-via-else-count-gt0}
 use Rattle.profile_rows.proofs.summing.last_of_stack.Goals as goal

@@ -1,7 +1,7 @@
 -- The nodes by each value are as many, and a node's row has its weight.
 use Rattle.std.proofs.lemmas.Grind.{common_steps}
 use Rattle.std.proofs.Common.{arith}
-use Rattle.call_tree.proofs.Shapes.{node_at-node_rows}
+use Rattle.call_tree.proofs.Shapes.{row_at-node_rows}
 use Rattle.call_tree.proofs.Trees.{length-seen, seen}
 use Rattle.call_tree.proofs.tree.CallTree.weight.Goals as goal
 
@@ -15,4 +15,4 @@ weight-requires-clause-within c =
     )
 
 pub returns : goal.returns
-returns c = grind (arith, common_steps, node_at-node_rows, seen)
+returns c = grind (arith, common_steps, row_at-node_rows, seen)

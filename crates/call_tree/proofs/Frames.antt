@@ -6,7 +6,7 @@ use Rattle.std.proofs.Common.{⊎_elim}
 use Rattle.std.specs.Prelude.{nat_lt}
 use Rattle.std.specs.List.{AllByRecursion}
 use Rattle.std.proofs.lemmas.List.{append-nil, take_more, map_push}
-use Rattle.std.proofs.lemmas.List.Elements.{All-from_recursion}
+use Rattle.std.proofs.lemmas.List.Elements.{All-from_recursion, filter-append}
 use Rattle.std.proofs.lemmas.List.Sorted.{All-permutation, sum_by-IsPermutation}
 use Rattle.std.proofs.lemmas.List.Sums.{sum_by-cons}
 use Rattle.profile_rows.specs.declared.weighted_stacks.WeightedStack.{WeightedStack}
@@ -36,14 +36,10 @@ names_of_weight rows names = filter weighs (map (sums_at rows) names)
 
 -- ---- one name more
 
-filter_append : (xs ys : List FrameTotal) → filter weighs (xs ++ ys) ≡ filter weighs xs ++ filter weighs ys
-filter_append [] ys = refl
-filter_append (x ∷ xs) ys = grind (arith, common_steps, filter_append xs ys)
-
 pub names_of_weight-more : (rows : List WeightedStack) (names : List (List ℕ)) (k : ℕ) → k < length names
     → names_of_weight rows (take (k + 1) names)
     ≡ names_of_weight rows (take k names) ++ filter weighs (sums_at rows (name_at names k) ∷ [])
-names_of_weight-more rows names k lt = grind (arith, common_steps, take_more, map_push, filter_append)
+names_of_weight-more rows names k lt = grind (arith, common_steps, take_more, map_push, filter-append)
 
 -- the loop's step, as the code reads and writes
 module _ (rows : List WeightedStack) (names : List (List ℕ)) (k flat cum : ℕ) (name : List ℕ) (lt : k < length names)

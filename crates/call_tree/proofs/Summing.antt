@@ -2,7 +2,7 @@
 use Rattle.std.proofs.lemmas.Grind.{common_steps}
 use Rattle.std.proofs.Common.{rules, ◌≡◌, ℕ, zero, suc, ◌+◌, ◌<◌, ◌≤◌, ◌^◌, Bool, true, false, cond, not, ◌&&◌, ◌||◌}
 use Rattle.std.proofs.Common.{nat_eq}
-use Rattle.std.proofs.Common.{List, [], ◌∷◌, ◌++◌, length, take, get_or, refl, sym, ap, ◌∙◌, arith, sum_by}
+use Rattle.std.proofs.Common.{List, [], ◌∷◌, length, take, get_or, refl, sym, ap, ◌∙◌, arith, sum_by}
 use Rattle.std.proofs.Common.{⊎_elim}
 use Rattle.std.proofs.Math.ListN.{set, replicate}
 use Rattle.std.proofs.Math.Seq.{take-set-lt}
@@ -14,6 +14,7 @@ use Rattle.profile_rows.specs.declared.weighted_stacks.WeightedStack.{WeightedSt
 use Rattle.profile_rows.specs.Names.{is_same_name}
 use Rattle.profile_rows.specs.Rows.{has_name, ends_with_name, total_of, weight_if, weight_where, flat_weight_of}
 use Rattle.profile_rows.specs.Rows.{cumulative_weight_of}
+use Rattle.profile_rows.proofs.RowLaws.{ends_with_name-push}
 use Rattle.profile_rows.proofs.SameNames.{same_from_is_same_name, is_same_name-self}
 use Rattle.profile_rows.specs.Merging.{no_row, row_at, with_added_at}
 use Rattle.call_tree.specs.declared.node.Node.{Node}
@@ -79,12 +80,6 @@ sum_below_root f g (r ∷ rs) [] e pos z h = absurd (omega arith)
 sum_below_root f g (r ∷ rs) (n ∷ ns) e pos z h =
     let rest = sum_both f g rs ns (omega arith) (λ k lt. h (suc k) (omega arith) (omega arith)) in
     omega (arith, rest, z, sum_by-cons f r rs, sum_by-cons g n ns)
-
-ends_with_name-push : (name : List ℕ) (stack : List (List ℕ)) (last : List ℕ)
-    → ends_with_name name (stack ++ last ∷ []) ≡ is_same_name name last
-ends_with_name-push name [] last = refl
-ends_with_name-push name (x ∷ []) last = refl
-ends_with_name-push name (x ∷ y ∷ stack) last = ends_with_name-push name (y ∷ stack) last
 
 -- ---- rows with what was added below them
 

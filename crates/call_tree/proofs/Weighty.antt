@@ -4,6 +4,7 @@ use Rattle.std.proofs.Common.{◌≡◌, ℕ, ◌+◌, ◌<◌, List, [], ◌∷
 use Rattle.std.proofs.Common.{take, refl, ap, ◌∙◌, arith}
 use Rattle.std.proofs.lemmas.Bool.{lt-ltb, ltb-false}
 use Rattle.std.proofs.lemmas.List.{append-nil, take_more}
+use Rattle.std.proofs.lemmas.List.Elements.{filter-append}
 use Rattle.std.proofs.lemmas.List.Sums.{sum_by-cons}
 use Rattle.profile_rows.specs.declared.weighted_stacks.WeightedStack.{WeightedStack}
 use Rattle.profile_rows.specs.Rows.{weight_of}
@@ -14,17 +15,12 @@ use Rattle.call_tree.specs.State.{stack_at, has_weight}
 
 -- ---- the loop's step
 
-filter_append : (xs ys : List WeightedStack)
-    → filter has_weight (xs ++ ys) ≡ filter has_weight xs ++ filter has_weight ys
-filter_append [] ys = refl
-filter_append (x ∷ xs) ys = grind (arith, common_steps, filter_append xs ys)
-
 module _ (nodes before next : List WeightedStack) (k weight : ℕ) (lt : k < length nodes)
     (weight_is : weight ≡ (row_at nodes k).weight) (done : before ≡ filter has_weight (take k nodes)) where
   more : filter has_weight (take (k + 1) nodes)
       ≡ filter has_weight (take k nodes) ++ filter has_weight (row_at nodes k ∷ [])
   more = ap (filter has_weight) (take_more nodes k (record { stack = []; weight = 0 }) lt)
-      ∙ filter_append (take k nodes) (row_at nodes k ∷ [])
+      ∙ filter-append has_weight (take k nodes) (row_at nodes k ∷ [])
 
   pub weighted : 0 < weight → (stack : List (List ℕ))
       → stack ≡ stack_at nodes k → next ≡ before ++ (record { stack = stack; weight = weight }) ∷ []

@@ -4,9 +4,10 @@ use Rattle.std.specs.Prelude.{Option, Some, None, MatchOption, not, ◌==◌, na
 use Rattle.std.specs.Char.{digit_value}
 use Rattle.std.specs.List.{AllByRecursion, list_all}
 use Rattle.std.specs.Str.Parse.{AllDigits, IsNumeral, digits_value}
-use Rattle.std.proofs.lemmas.Bool.{and_parts, eqb-false, leb-true, le-ltb, lt-ltb, ne_eqb, not-true}
+use Rattle.std.proofs.lemmas.Bool.{and_parts, leb-true, le-ltb, lt-ltb, ne_eqb, not-true}
 use Rattle.std.proofs.lemmas.List.Elements.{recursion_from_All}
 use Rattle.profile_rows.specs.Names.{IsName}
+use Rattle.profile_rows.proofs.Cleaning.{filled}
 use Rattle.flame_report.specs.declared.query.Kind.{Kind}
 use Rattle.flame_words.specs.declared.request.Format.{Format}
 use Rattle.flame_words.specs.declared.request.Request.TheVariants.{Report}
@@ -31,13 +32,10 @@ all_digits (byte ∷ text) e =
     let parts = and_parts (is_digit byte) (list_all is_digit text) e in
     (digit_small byte parts.0, all_digits text parts.1)
 
-filled : (text : List ℕ) → not (length text == 0) ≡ true → 0 < length text
-filled text e = let some = eqb-false (length text) 0 (not-true (length text == 0) e) in omega arith
-
 pub IsNumeral-number : (text : List ℕ) → is_number text ≡ true → IsNumeral 10 text
 IsNumeral-number text e =
     let parts = and_parts (not (length text == 0)) (list_all is_digit text) e in
-    (filled text parts.0, all_digits text parts.1)
+    (filled text (not-true (length text == 0) parts.0), all_digits text parts.1)
 
 pub number_found : (text : List ℕ) (found : Option ℕ) → is_number text ≡ true
     → MatchOption found (2 ^ 32 ≤ digits_value 10 text) (λ number. (number ≡ digits_value 10 text) × (number < 2 ^ 32))

@@ -20,7 +20,7 @@ use Rattle.name_counts.specs.Tallies.{AreSingle, AreTalliesOf, IsNumberedStack, 
 use Rattle.name_counts.specs.Tallies.{leaf_counted, numbers_counted, tally_at, tally_of}
 use Rattle.name_counts.specs.TextTables.{names_at}
 use Rattle.name_counts.specs.TextTables.{number_in}
-use Rattle.profile_rows.proofs.RowLaws.{weight_where-le-total, weight_where-push}
+use Rattle.profile_rows.proofs.RowLaws.{ends_with_name-push, weight_where-le-total, weight_where-push}
 use Rattle.profile_rows.proofs.SameNames.{same_from_is_same_name, is_same_name-self}
 use Rattle.name_counts.proofs.TextNumbers.{text_of_number, turned}
 
@@ -136,12 +136,6 @@ leaf_after true false t number weight fresh within = absurd (false≢true (withi
 leaf_after false true t number weight fresh within = counted_new t number weight fresh
     ∙ same_tally _ _ (omega arith) refl refl
 leaf_after false false t number weight fresh within = same_tally _ _ (omega arith) (omega arith) refl
-
-ends_with_name-push : (name : List ℕ) (callers : List (List ℕ)) (leaf : List ℕ)
-    → ends_with_name name (callers ++ leaf ∷ []) ≡ is_same_name name leaf
-ends_with_name-push name [] leaf = refl
-ends_with_name-push name (caller ∷ []) leaf = refl
-ends_with_name-push name (caller ∷ next ∷ callers) leaf = ends_with_name-push name (next ∷ callers) leaf
 
 -- a row more, for the tally of one name
 abbrev row_counted : WeightedStack → ℕ → List ℕ → Tally → Tally

@@ -11,12 +11,21 @@ use Rattle.std.proofs.lemmas.List.Sums.{sum_by-cons, sum_by_push, sum_by-set, su
 use Rattle.std.proofs.Math.ListN.{set}
 use Rattle.std.proofs.lemmas.Bool.{ltb-true}
 use Rattle.profile_rows.specs.declared.weighted_stacks.WeightedStack.{WeightedStack}
-use Rattle.profile_rows.specs.Rows.{stack_cmp, is_same_stack, weight_if, weight_where, weight_of, total_of}
+use Rattle.profile_rows.specs.Names.{is_same_name}
+use Rattle.profile_rows.specs.Rows.{ends_with_name, is_same_stack, stack_cmp, total_of}
+use Rattle.profile_rows.specs.Rows.{weight_if, weight_of, weight_where}
 use Rattle.profile_rows.specs.Aggregate.{Weighted, weight_in, with_row, with_rows, aggregate_of}
 use Rattle.profile_rows.proofs.EntryLaws.{Entry, entries_where, entries_where-aggregate_of, entries_where-with_rows}
 use Rattle.profile_rows.proofs.EntryLaws.{no_entries, sum_found}
 pub use Rattle.profile_rows.proofs.StackLaws.{stack_cmp_total, stack_cmp_apart}
 pub use Rattle.profile_rows.proofs.StackLaws.{same_from_is_same_stack, is_same_stack-self}
+
+-- a stack ends with the name that was put after its last
+pub ends_with_name-push : (name : List ℕ) (callers : List (List ℕ)) (leaf : List ℕ)
+    → ends_with_name name (callers ++ leaf ∷ []) ≡ is_same_name name leaf
+ends_with_name-push name [] leaf = refl
+ends_with_name-push name (caller ∷ []) leaf = refl
+ends_with_name-push name (caller ∷ next ∷ callers) leaf = ends_with_name-push name (next ∷ callers) leaf
 
 -- what a map has of a stack is the sum over its entries of that stack
 weight_in-entries : (m : Weighted) (s : List (List ℕ)) → weight_in m s ≡ entries_where (is_same_stack s) m

@@ -13,6 +13,7 @@ use profile_rows::{Batch, Stack, WeightedStacks, push_joined};
 use std::alloc::{AllocError, Global};
 
 /// Ends a line with a space and its weight.
+#[inline(always)]
 pub(crate) fn end_line(text: &mut String, weight: u64) -> Result<(), AllocError>
     ensures { OnOk result (string_bytes text.new ≡ string_bytes text.old ++ 32 ∷ decimal weight ++ 10 ∷ []) }
 {

@@ -32,7 +32,8 @@ pub total_of-credited : (rows : List WeightedStack) (k w : ℕ)
 total_of-credited rows k w lt = grind (arith, common_steps, sum_by-set)
 
 pub aggregate_of-credited : (rows : List WeightedStack) (k w : ℕ) → k < length rows
-    → aggregate_of (with_added_at rows k w) ≡ with_row (aggregate_of rows) (record { stack = stack_at rows k; weight = w })
+    → aggregate_of (with_added_at rows k w)
+    ≡ with_row (aggregate_of rows) (record { stack = stack_at rows k; weight = w })
 aggregate_of-credited rows k w lt =
     aggregate_of-more rows ((record { stack = stack_at rows k; weight = w }) ∷ []) (with_added_at rows k w)
     (λ s. weight_where-credited (is_same_stack s) rows k w lt ∙ ap (λ x. weight_of rows s + x)

@@ -24,9 +24,12 @@ shared_texts before frames count is =
 
 pub overflow_add-known : goal.overflow_add-known
 overflow_add-known c =
-    let count = shared_texts c.deref.result.now c.deref-in-loop-at.result.now c.shared-shared.result c.shared-shared.ensures in grind (arith, common_steps, common_prefix_len-le, count)
+    let count = shared_texts c.deref.result.now c.deref-in-loop-at.result.now
+    c.shared-shared.result c.shared-shared.ensures in
+    grind (arith, common_steps, common_prefix_len-le, count)
 
 pub loop-at-preserved : goal.loop-at-preserved
 loop-at-preserved c =
-    let count = shared_texts c.deref.result.now c.deref-in-loop-at.result.now c.shared-shared.result c.shared-shared.ensures in
+    let count = shared_texts c.deref.result.now c.deref-in-loop-at.result.now
+    c.shared-shared.result c.shared-shared.ensures in
     grind (arith, common_steps, text_of, count, stack_in-get, known_at-back)

@@ -4,7 +4,8 @@ use Rattle.std.proofs.Common.{arith, ◌≡◌, ℕ, List, [], ◌∷◌, ◌++�
 use Rattle.pprof_wire.specs.Varints.{IsVarint}
 use Rattle.pprof_wire.specs.Fields.{PlainField, IsFieldSpelling}
 use Rattle.pprof_wire.proofs.ListLaws.{one_field_listed, fields_joined, one_number_listed, numbers_joined}
-use Rattle.pprof_profile.specs.Reading.{Table, Gathers, Spells, IsReadSoFar, IsUnpacked}
+use Rattle.pprof_profile.specs.declared.faults.ProfileFault.{ProfileFault}
+use Rattle.pprof_profile.specs.Reading.{Table, Gathers, Spells, IsFirstFieldFault, IsReadSoFar, IsUnpacked}
 
 pub gathers_joined : {M : Type 0} (table : Table M) (old mid new : M) (xs ys : List PlainField)
     → Gathers table old xs mid → Gathers table mid ys new
@@ -53,3 +54,32 @@ unpacked_more {A = A} from old mid front spelling number so-far spelled =
           ∙ append_assoc old (map from so-far.numbers) (from number ∷ [])
           ∙ ap (λ (xs : List A). old ++ xs) (sym (map_joined from so-far.numbers (number ∷ [])));
     }
+
+-- nothing is read yet
+pub nothing_read : {M : Type 0} (table : Table M) (old : M) (bytes : List ℕ) → IsReadSoFar table old bytes old bytes
+nothing_read table old bytes = record {
+  front = [];
+  parts = refl;
+  spelled = record { fields = []; listed = refl; gathered = refl };
+}
+
+-- what is read after fields is read with them
+pub read_after : {M : Type 0} (table : Table M) (old mid : M) (bytes rest : List ℕ) (new : M)
+    → IsReadSoFar table old bytes mid rest → Spells table mid rest new → Spells table old bytes new
+read_after table old mid bytes rest new so-far after =
+    rw so-far.parts (spells_joined table old mid new so-far.front rest so-far.spelled after)
+
+pub fault_after : {M : Type 0} (table : Table M) (old mid : M) (bytes rest : List ℕ) (fault : ProfileFault)
+    → IsReadSoFar table old bytes mid rest → IsFirstFieldFault table mid rest fault
+    → IsFirstFieldFault table old bytes fault
+fault_after table old mid bytes rest fault so-far after = record {
+  so_far = after.so_far;
+  rest = after.rest;
+  read = record {
+    front = so-far.front ++ after.read.front;
+    parts = so-far.parts ∙ ap (λ (left : List ℕ). so-far.front ++ left) after.read.parts
+        ∙ sym (append_assoc so-far.front after.read.front after.rest);
+    spelled = spells_joined table old mid after.so_far so-far.front after.read.front so-far.spelled after.read.spelled;
+  };
+  faulty = after.faulty;
+}

@@ -5,6 +5,7 @@ pub mod Forms
 pub mod Gathering
 pub mod KnownIds
 pub mod LawfulForms
+pub mod LocationLists
 pub mod Once
 pub mod Places
 pub mod Plain

@@ -3,6 +3,7 @@ pub mod ByFields
 pub mod Canonical
 pub mod Forms
 pub mod KnownIds
+pub mod LocationLists
 pub mod Messages
 pub mod NearTables
 pub mod Profiles

@@ -29,6 +29,23 @@ pub(crate) trait Message: Drop {
         ensures { KeepsRule (table_of form self.old field.entry.number (value_of field.entry.value)) self.new result };
 }
 
+/// Takes each field that is left, in order, and stops at the first fault.
+pub(crate) fn take_fields<M: Message>(
+    alloc: Global,
+    message: &mut M,
+    fields: &mut Fields,
+) -> Result<(), ProfileFault>
+    ensures { KeepsRule (Reads (table_of M.form) message.old fields.old.bytes) message.new result }
+{
+    while let Some(read) = fields.next_field() {
+        match read {
+            Ok(field) => message.take(alloc, field)?,
+            Err(fault) => return Err(ProfileFault::Wire(fault)),
+        }
+    }
+    Ok(())
+}
+
 /// Takes each field of the bytes, in order, and stops at the first fault.
 pub(crate) fn read_onto<M: Message>(
     alloc: Global,
@@ -37,14 +54,7 @@ pub(crate) fn read_onto<M: Message>(
 ) -> Result<(), ProfileFault>
     ensures { KeepsRule (Reads (table_of M.form) message.old bytes.now) message.new result }
 {
-    let mut fields = Fields::new(bytes);
-    while let Some(read) = fields.next_field() {
-        match read {
-            Ok(field) => message.take(alloc, field)?,
-            Err(fault) => return Err(ProfileFault::Wire(fault)),
-        }
-    }
-    Ok(())
+    take_fields(alloc, message, &mut Fields::new(bytes))
 }
 
 /// The message that the bytes spell.
@@ -98,7 +108,7 @@ fn count_ends(bytes: &[u8]) -> usize {
 }
 
 /// Adds the packed numbers, with memory for all of them taken at once.
-fn push_packed<N: Number>(items: &mut Items<N>, bytes: &[u8]) -> Result<(), ProfileFault>
+pub(crate) fn push_packed<N: Number>(items: &mut Items<N>, bytes: &[u8]) -> Result<(), ProfileFault>
     ensures added { OnOk result (IsUnpacked N.of items.old bytes.now items.new) }
     ensures fault { IfErr result (λ fault. fault ≢ ProfileFault.NoMemory → IsPackedFault bytes.now fault) }
 {

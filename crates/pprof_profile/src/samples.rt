@@ -1,29 +1,43 @@
 //! The samples of a profile, whose parts stand together: a profile has many.
 
-ghost use Rattle.std.specs.Prelude.{◌≡◌, ◌≢◌, ◌<◌, ◌++◌, ◌∷◌, [], Err, List, Ok, Some, length, slice_get, IfErr, OnErr};
+ghost use Rattle.std.specs.Prelude.{◌≡◌, ◌≢◌, ◌<◌, ◌^◌, ◌++◌, ◌∷◌, [], Err, List, Ok, Some, length, slice_get, IfErr};
+ghost use Rattle.std.specs.Prelude.{OnErr};
 ghost use Rattle.std.specs.Prelude.{OnOk};
 ghost use Rattle.pprof_wire.specs.Fields.{value_of};
 ghost use Rattle.pprof_profile.specs.declared.faults.ProfileFault.{ProfileFault};
-ghost use Rattle.pprof_profile.specs.Forms.{table_of};
+ghost use Rattle.pprof_profile.specs.Forms.{table_of, unsigned_of};
+ghost use Rattle.pprof_profile.specs.LocationLists.{list_at};
 ghost use Rattle.pprof_profile.specs.Messages.{no_sample, sample_form};
-ghost use Rattle.pprof_profile.specs.Reading.{AddsMessage, IsAppended, IsFirstFieldFault};
+ghost use Rattle.pprof_profile.specs.Reading.{AddsMessage, IsAppended, IsFirstFieldFault, IsPackedFault, IsReadSoFar};
+ghost use Rattle.pprof_profile.specs.Reading.{IsUnpacked};
+ghost use Rattle.pprof_profile.specs.declared.messages.Sample.{Sample};
 
 use crate::faults::ProfileFault;
+use crate::location_lists::LocationLists;
 use crate::messages::{Label, Sample};
-use crate::reading::{Message, read_onto};
+use crate::reading::{Message, push_packed, take_fields};
 use crate::sample_iter::SampleIter;
-use basics::{Span, append};
-use pprof_wire::{NoMemory, Value, WireFault};
+use basics::{Items, Span, append};
+use pprof_wire::{Field, Fields, NoMemory, Value, WireFault};
 use std::alloc::{AllocError, Global};
 use std::fmt::{self, Debug, Formatter, Write};
 use std::marker::Model;
 
-/// Where the parts of a sample stand.
+/// Where the parts of a sample stand: its locations' ids are the list of a number.
 #[derive(Clone, Copy, Debug)]
 pub(crate) struct SampleSpans {
-    pub location_ids: Span,
+    pub list: u32,
     pub values: Span,
     pub labels: Span,
+}
+
+/// Where the parts of the sample at an index stand.
+#[inline(always)]
+fn spans_at(spans: &[SampleSpans], index: usize) -> SampleSpans
+    requires { index < length spans.now }
+    ensures { slice_get spans.now index ≡ Some result }
+{
+    spans[index]
 }
 
 /// A sample that is lent. A contract sees the sample.
@@ -69,11 +83,85 @@ impl<'a> SampleRef<'a> {
     }
 }
 
-/// Samples in order: the parts of all stand in three vectors. A contract sees the samples.
+/// Samples in order with the numbers of their lists of location ids: those of one number have the same list. A contract
+/// sees the samples and the lists.
+#[derive(Drop)]
+pub struct SamplesByList<'a> {
+    spans: &'a [SampleSpans],
+    locations: &'a LocationLists,
+    values: &'a [i64],
+    labels: &'a [Label],
+}
+
+impl<'a> Model for SamplesByList<'a> {
+    ghost use Rattle.std.specs.Prelude.{All, map};
+    ghost use Rattle.pprof_profile.specs.SampleLists.{AreWithin, ListedSamples, sample_at};
+
+    ghost Value = { ListedSamples };
+
+    ghost view = { λ listed. record {
+      samples = map (sample_at listed.locations.now listed.values.now listed.labels.now) listed.spans.now;
+      lists = listed.locations.now;
+    } };
+
+    ghost invariant = { λ listed.
+        All (AreWithin listed.locations.now listed.values.now listed.labels.now) listed.spans.now };
+}
+
+impl<'a> SamplesByList<'a> {
+    /// How many samples there are.
+    pub fn len(&self) -> usize
+        ensures { result ≡ length self.now.samples }
+    {
+        self.spans.len()
+    }
+
+    /// The sample at an index.
+    pub fn at(&self, index: usize) -> SampleRef<'a>
+        requires { index < length self.now.samples }
+        ensures { slice_get self.now.samples index ≡ Some result }
+    {
+        let spans = spans_at(self.spans, index);
+        SampleRef {
+            location_ids: self.locations.at(spans.list as usize),
+            values: spans.values.of(self.values),
+            labels: spans.labels.of(self.labels),
+        }
+    }
+
+    /// The number of the list of the sample at an index.
+    #[inline(always)]
+    pub fn number_at(&self, index: usize) -> usize
+        requires { index < length self.now.samples }
+        ensures inside { result < length self.now.lists }
+        ensures fits { result < 2 ^ 32 }
+        ensures list { (sample : Sample) → slice_get self.now.samples index ≡ Some sample
+            → sample.location_ids ≡ list_at self.now.lists result }
+    {
+        spans_at(self.spans, index).list as usize
+    }
+
+    /// How many lists there are. A list may have other numbers too, and some may be no sample's.
+    pub fn list_count(&self) -> usize
+        ensures { result ≡ length self.now.lists }
+    {
+        self.locations.len()
+    }
+
+    /// The list of a number.
+    pub fn list(&self, number: usize) -> &'a [u64]
+        requires { number < length self.now.lists }
+        ensures { result.now ≡ list_at self.now.lists number }
+    {
+        self.locations.at(number)
+    }
+}
+
+/// Samples in order: the parts of all stand together. A contract sees the samples.
 #[derive(Drop)]
 pub(crate) struct SampleLists {
     spans: Vec<SampleSpans>,
-    location_ids: Vec<u64>,
+    locations: LocationLists,
     values: Vec<i64>,
     labels: Vec<Label>,
 }
@@ -86,10 +174,10 @@ impl Model for SampleLists {
     ghost Value = { List Sample };
 
     ghost view = { λ lists.
-        map (sample_at lists.location_ids.items lists.values.items lists.labels.items) lists.spans.items };
+        map (sample_at lists.locations lists.values.items lists.labels.items) lists.spans.items };
 
     ghost invariant = { λ lists.
-        All (AreWithin lists.location_ids.items lists.values.items lists.labels.items) lists.spans.items };
+        All (AreWithin lists.locations lists.values.items lists.labels.items) lists.spans.items };
 }
 
 impl SampleLists {
@@ -99,45 +187,105 @@ impl SampleLists {
     {
         SampleLists {
             spans: Vec::new(alloc),
-            location_ids: Vec::new(alloc),
+            locations: LocationLists::empty(alloc),
             values: Vec::new(alloc),
             labels: Vec::new(alloc),
         }
     }
 
-    /// Adds a copy of a sample. Where memory runs out the samples are as they were.
-    pub(crate) fn push(&mut self, sample: &Sample) -> Result<(), AllocError>
+    /// Adds a copy of a sample, whose list may have the number that is guessed. Where memory runs out the samples are
+    /// as they were.
+    pub(crate) fn push(&mut self, sample: &Sample, guess: Option<u32>) -> Result<(), AllocError>
         ensures pushed { OnOk result (self.new ≡ self.old ++ sample.now ∷ []) }
         ensures unchanged { OnErr result (self.new ≡ self.old) }
     {
-        let location_ids = append(&mut self.location_ids, sample.location_ids.as_slice())?;
+        let guess = guess.or(self.spans.last().map(|spans| spans.list));
+        let list = self
+            .locations
+            .number_with(sample.location_ids.as_slice(), guess)?;
         let values = append(&mut self.values, sample.values.as_slice())?;
         let labels = append(&mut self.labels, sample.labels.as_slice())?;
         self.spans.push(SampleSpans {
-            location_ids,
+            list,
             values,
             labels,
         })?;
         Ok(())
     }
 
-    /// How many samples there are.
-    fn len(&self) -> usize
-        ensures { result ≡ length self.now }
+    /// Puts the ids that these bytes spell in a place without ids. Those that came before are copied. Gives the number
+    /// of their list.
+    fn take_list(&mut self, ids: &mut Items<u64>, packed: &[u8]) -> Result<u32, ProfileFault>
+        requires { ids.old ≡ [] }
+        ensures taken { OnOk result (IsUnpacked unsigned_of [] packed.now ids.new) }
+        ensures fault { IfErr result (λ fault. fault ≢ ProfileFault.NoMemory → IsPackedFault packed.now fault) }
+        ensures kept { self.new ≡ self.old }
     {
-        self.spans.len()
+        if let Some(number) = self.locations.find(packed) {
+            ids.extend(self.locations.at(number as usize))?;
+            return Ok(number);
+        }
+        push_packed(ids, packed)?;
+        Ok(self.locations.push(ids.as_slice(), packed)?)
     }
 
-    /// The sample at an index.
-    fn at(&self, index: usize) -> SampleRef<'_>
-        requires { index < length self.now }
-        ensures { slice_get self.now index ≡ Some result }
+    /// Takes a field of a sample that is read, which has no ids yet. Where it has packed ids, it gives the number of
+    /// their list.
+    fn take_field(
+        &mut self,
+        alloc: Global,
+        sample: &mut Sample,
+        field: Field,
+    ) -> Result<Option<u32>, ProfileFault>
+        requires { sample.old.location_ids ≡ [] }
+        ensures taken { OnOk result (table_of sample_form sample.old field.entry.number (value_of field.entry.value)
+            (Ok sample.new)) }
+        ensures fault { IfErr result (λ fault. fault ≢ ProfileFault.NoMemory
+            → table_of sample_form sample.old field.entry.number (value_of field.entry.value) (Err fault)) }
+        ensures kept { self.new ≡ self.old }
     {
-        let spans = self.spans[index];
-        SampleRef {
-            location_ids: spans.location_ids.of(self.location_ids.as_slice()),
-            values: spans.values.of(self.values.as_slice()),
-            labels: spans.labels.of(self.labels.as_slice()),
+        match field.value {
+            Value::Bytes(packed) if field.number == 1 => {
+                Ok(Some(self.take_list(&mut sample.location_ids, packed)?))
+            }
+            _ => {
+                sample.take(alloc, field)?;
+                Ok(None)
+            }
+        }
+    }
+
+    /// Takes the first field of a sample that is read, of which nothing was taken before. Where it has packed ids, it
+    /// gives the number of their list.
+    fn take_first(
+        &mut self,
+        alloc: Global,
+        sample: &mut Sample,
+        fields: &mut Fields,
+    ) -> Result<Option<u32>, ProfileFault>
+        requires { sample.old ≡ no_sample }
+        ensures read { OnOk result
+            (IsReadSoFar (table_of sample_form) no_sample fields.old.bytes sample.new fields.new.bytes) }
+        ensures fault { IfErr result (λ fault. fault ≢ ProfileFault.NoMemory
+            → IsFirstFieldFault (table_of sample_form) no_sample fields.old.bytes fault) }
+        ensures kept { self.new ≡ self.old }
+    {
+        match fields.next_field() {
+            Some(Ok(field)) => self.take_field(alloc, sample, field),
+            Some(Err(fault)) => Err(ProfileFault::Wire(fault)),
+            None => Ok(None),
+        }
+    }
+
+    /// These samples, with the numbers of their lists.
+    fn by_list(&self) -> SamplesByList<'_>
+        ensures { result.samples ≡ self.now }
+    {
+        SamplesByList {
+            spans: self.spans.as_slice(),
+            locations: &self.locations,
+            values: self.values.as_slice(),
+            labels: self.labels.as_slice(),
         }
     }
 }
@@ -180,7 +328,7 @@ impl Samples {
     pub fn len(&self) -> usize
         ensures { result ≡ length self.now }
     {
-        self.lists.len()
+        self.by_list().len()
     }
 
     /// The sample at an index.
@@ -188,7 +336,14 @@ impl Samples {
         requires { index < length self.now }
         ensures { slice_get self.now index ≡ Some result }
     {
-        self.lists.at(index)
+        self.by_list().at(index)
+    }
+
+    /// The samples with the numbers of their lists of location ids, so that what is asked of a list is asked once.
+    pub fn by_list(&self) -> SamplesByList<'_>
+        ensures { result.samples ≡ self.now }
+    {
+        self.lists.by_list()
     }
 
     /// The samples in order, each of them lent. Takes no memory.
@@ -208,7 +363,7 @@ impl Samples {
         ensures pushed { OnOk result (self.new ≡ self.old ++ sample.now ∷ []) }
         ensures unchanged { OnErr result (self.new ≡ self.old) }
     {
-        Ok(self.lists.push(sample)?)
+        Ok(self.lists.push(sample, None)?)
     }
 
     /// Adds the sample that the bytes spell.
@@ -218,9 +373,11 @@ impl Samples {
             → IsFirstFieldFault (table_of sample_form) no_sample bytes.now fault) }
     {
         self.spare.clear();
-        read_onto(alloc, &mut self.spare, bytes)?;
+        let mut fields = Fields::new(bytes);
+        let list = self.lists.take_first(alloc, &mut self.spare, &mut fields)?;
+        take_fields(alloc, &mut self.spare, &mut fields)?;
         let spare = &self.spare;
-        Ok(self.lists.push(spare)?)
+        Ok(self.lists.push(spare, list)?)
     }
 }
 

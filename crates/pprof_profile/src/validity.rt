@@ -11,7 +11,7 @@ use crate::faults::ProfileFault;
 use crate::ids::{KnownIds, has_zero_id, unique_ids};
 use crate::indices::indices_hold;
 use crate::messages::{Draft, Line, Location};
-use crate::samples::Samples;
+use crate::samples::{Samples, SamplesByList};
 use crate::text::Text;
 use std::alloc::Global;
 
@@ -37,7 +37,7 @@ pub(crate) fn validate(alloc: Global, draft: &Draft) -> Result<(), ProfileFault>
     let mappings = unique_ids(alloc, draft.mappings.as_slice())?;
     let locations = unique_ids(alloc, draft.locations.as_slice())?;
     let functions = unique_ids(alloc, draft.functions.as_slice())?;
-    if !locations_are_known(&locations, &draft.samples) {
+    if !locations_are_known(&locations, &draft.samples.by_list()) {
         return Err(ProfileFault::NoLocation);
     }
     if !mappings_are_known(&mappings, draft.locations.as_slice()) {
@@ -69,13 +69,21 @@ fn first_is_empty(strings: &[Text]) -> bool
     }
 }
 
-/// Each location that a sample names is there.
-fn locations_are_known(known: &KnownIds, samples: &Samples) -> bool
-    ensures { result ≡ names_locations (knows known.now) samples.now }
+/// Each location that a sample names is there. Most lists of locations are looked at once, since those of the first
+/// numbers are known by then.
+fn locations_are_known(known: &KnownIds, samples: &SamplesByList) -> bool
+    ensures { result ≡ names_locations (knows known.now) samples.now.samples }
 {
+    let mut first = 0;
     for index in 0..samples.len() {
-        if !each_is_known(known, samples.at(index).location_ids()) {
-            return false;
+        let number = samples.number_at(index);
+        if number >= first {
+            if !each_is_known(known, samples.list(number)) {
+                return false;
+            }
+            if number == first {
+                first += 1;
+            }
         }
     }
     true

@@ -1,96 +1,89 @@
 -- Lists of locations and what they weigh.
 use Rattle.std.proofs.lemmas.Grind.{common_steps}
-use Rattle.std.proofs.Common.{◌≡◌, ℕ, ◌+◌, ◌^◌, ◌<◌, ◌≤◌, Bool, false, List, [], ◌∷◌, ◌++◌, length, get_or, set, take}
-use Rattle.std.proofs.Common.{refl, sym, ap, ◌∙◌, Option, None, Some, slice_get, position, arith}
-use Rattle.std.specs.Prelude.{MatchOption}
-use Rattle.std.specs.Option.{is_some}
-use Rattle.std.specs.Map.{keys_of, values_of, lookup}
-use Rattle.std.specs.Str.{bytes_eq}
-use Rattle.std.proofs.lemmas.List.{length-map, map-append, map-set, take_more}
-use Rattle.std.proofs.lemmas.List.Elements.{All-push}
-use Rattle.std.proofs.lemmas.List.Quantifiers.{position-Some}
-use Rattle.std.proofs.lemmas.List.Sums.{get_or-le-sum_by, sum_by-cons, sum_by-set, sum_by_more_le}
+use Rattle.std.proofs.Common.{◌≡◌, ℕ, ◌+◌, ◌^◌, ◌<◌, ◌≤◌, List, [], ◌∷◌, ◌++◌, length, get_or, map, set, take}
+use Rattle.std.proofs.Common.{refl, sym, ap, ◌∙◌, Some, slice_get, arith}
+use Rattle.std.specs.Prelude.{replicate}
+use Rattle.std.proofs.lemmas.List.{get_or-map, length-map, map-append, map-set, take_more}
+use Rattle.std.proofs.lemmas.List.Sums.{get_or-le-sum_by, sum_by-cons, sum_by-set, sum_by_more_le, sum_by_push}
 use Rattle.std.proofs.lemmas.Option.{get_or_from_slice_get, slice_get_within}
 use Prim.Native.Nat.{zero, suc}
-use denote.Ref.{Bor}
-use Rattle.indexmap.specs.Layout.{set_value_at}
+use Rattle.pprof_profile.specs.LocationLists.{list_at}
 use Rattle.pprof_profile.specs.declared.messages.Draft.{Draft}
 use Rattle.profile_rows.specs.declared.weighted_stacks.WeightedStack.{WeightedStack}
-use Rattle.profile_rows.specs.Merging.{row_at, with_added_at}
+use Rattle.profile_rows.specs.Merging.{AddsRow, AreMergedSoFar, row_at, with_added_at}
 use Rattle.profile_rows.specs.Rows.{total_of}
-use Rattle.profile_rows.proofs.MergedRows.{AddsRow-added, AddsRow-push}
-use Rattle.profile_rows.proofs.SameNames.{same_from_is_same_name}
-use Rattle.profile_samples.specs.LocationSums.{AddsSample, IsListAt, LocationSum, has_list, location_sum}
-use Rattle.profile_samples.specs.LocationSums.{location_sums, row_of_sum, rows_of_sums, sum_at, total_of_sums}
+use Rattle.profile_rows.proofs.MergedRows.{AddsRow-added}
+use Rattle.profile_rows.proofs.RowLaws.{weight_where-push}
+use Rattle.profile_samples.specs.LocationSums.{FitStacks, LocationSum, location_sums, row_of_sum, rows_of_sums, sum_at}
+use Rattle.profile_samples.specs.LocationSums.{sum_without_weight, sums_without_weight, total_of_sums}
 use Rattle.profile_samples.specs.LocationSums.{with_raised_at}
 use Rattle.profile_samples.specs.Samples.{sample_stack_of}
-
-abbrev Entries : Type 0
-Entries = List (Bor (List ℕ) × ℕ)
 
 abbrev none : LocationSum
 none = record { ids = []; weight = 0 }
 
--- ---- a list among others
+-- ---- lists with their weights
 
-module _ (ids : List ℕ) where
-  abbrev pub is_list : Bor (List ℕ) → Bool
-  is_list key = bytes_eq ids key.now
+pub without_weight : (lists : List (List ℕ))
+    → location_sums lists (replicate (length lists) 0) ≡ sums_without_weight lists
+without_weight [] = refl
+without_weight (ids ∷ lists) = ap (λ sums. (record { ids = ids; weight = 0 }) ∷ sums) (without_weight lists)
 
-  -- a list that isn't found isn't there
-  has_list-none : (entries : Entries) → lookup is_list entries ≡ None → has_list ids (location_sums entries) ≡ false
-  has_list-none [] absent = refl
-  has_list-none (entry ∷ entries) absent = grind (arith, common_steps, has_list-none entries)
+pub total_of-without_weight : (lists : List (List ℕ)) → total_of_sums (sums_without_weight lists) ≡ 0
+total_of-without_weight [] = refl
+total_of-without_weight (ids ∷ lists) = grind (arith, common_steps, sum_by-cons, total_of-without_weight lists)
 
-  -- and one that isn't there isn't found
-  pub lookup-none : (entries : Entries) → has_list ids (location_sums entries) ≡ false → lookup is_list entries ≡ None
-  lookup-none [] absent = refl
-  lookup-none (entry ∷ entries) absent = grind (arith, common_steps, lookup-none entries)
+pub many_sums : (lists : List (List ℕ)) (weights : List ℕ) → length weights ≡ length lists
+    → length (location_sums lists weights) ≡ length lists
+many_sums [] weights same = refl
+many_sums (ids ∷ lists) [] same = grind (arith, common_steps)
+many_sums (ids ∷ lists) (weight ∷ weights) same =
+    ap suc (many_sums lists weights (omega (arith, same)))
 
-  ids_at : (entries : Entries) (at : ℕ) (key : Bor (List ℕ)) → at < length entries
-      → (sum_at (location_sums entries) at).ids ≡ (get_or (keys_of entries) at key).now
-  ids_at [] at key lt = absurd (omega (arith, lt))
-  ids_at (entry ∷ entries) zero key lt = refl
-  ids_at (entry ∷ entries) (suc at) key lt = ids_at entries at key (omega (arith, lt))
+pub sum_there : (lists : List (List ℕ)) (weights : List ℕ) (at weight : ℕ) → length weights ≡ length lists
+    → at < length lists → weight ≡ get_or weights at weight
+    → slice_get (location_sums lists weights) at ≡ Some (record { ids = list_at lists at; weight = weight })
+sum_there [] weights at weight same lt is = grind (arith, common_steps)
+sum_there (ids ∷ lists) [] at weight same lt is = grind (arith, common_steps)
+sum_there (ids ∷ lists) (first ∷ weights) zero weight same lt is = grind (arith, common_steps)
+sum_there (ids ∷ lists) (first ∷ weights) (suc at) weight same lt is =
+    sum_there lists weights at weight (omega (arith, same)) (omega (arith, lt)) is
 
-  list_at : (entries : Entries) (at : ℕ) (key : Bor (List ℕ))
-      → position is_list (keys_of entries) ≡ Some at → IsListAt (location_sums entries) ids at
-  list_at entries at key found =
-      let (lt, is, first) = position-Some is_list (keys_of entries) at key found in
-      let within : at < length entries = omega (arith, lt, length-map entries (λ e. e.0)) in
-      let same : ids ≡ (get_or (keys_of entries) at key).now =
-      same_from_is_same_name ids (get_or (keys_of entries) at key).now is in
-      (omega (arith, within, length-map entries location_sum), ids_at entries at key within ∙ sym same)
+weights_set : (lists : List (List ℕ)) (weights : List ℕ) (at weight : ℕ) → length weights ≡ length lists
+    → location_sums lists (set weights at weight)
+    ≡ set (location_sums lists weights) at
+    (record { ids = (sum_at (location_sums lists weights) at).ids; weight = weight })
+weights_set [] weights at weight same = refl
+weights_set (ids ∷ lists) [] at weight same = grind (arith, common_steps)
+weights_set (ids ∷ lists) (first ∷ weights) zero weight same = refl
+weights_set (ids ∷ lists) (first ∷ weights) (suc at) weight same =
+    ap (λ sums. (record { ids = ids; weight = first }) ∷ sums) (weights_set lists weights at weight (omega (arith, same)))
 
-  -- where a list is found its sum stands
-  pub list_found : (entries : Entries) (result : Option ℕ) → result ≡ position is_list (keys_of entries)
-      → is_some result ≡ is_some (lookup is_list entries)
-      → MatchOption result (has_list ids (location_sums entries) ≡ false) (IsListAt (location_sums entries) ids)
-  list_found entries None is same = has_list-none entries (grind (arith, common_steps))
-  list_found [] (Some at) is same = absurd (grind (arith, common_steps))
-  list_found (entry ∷ entries) (Some at) is same = list_at (entry ∷ entries) at entry.0 (sym is)
+weight_there : (lists : List (List ℕ)) (weights : List ℕ) (at before : ℕ) → length weights ≡ length lists
+    → at < length lists → before ≡ get_or weights at before
+    → (sum_at (location_sums lists weights) at).weight ≡ before
+weight_there lists weights at before same lt is =
+    ap (λ (sum : LocationSum). sum.weight)
+    (get_or_from_slice_get (location_sums lists weights) at _ none (sum_there lists weights at before same lt is))
 
--- ---- a list that weighs more
-
-value-set : (entries : Entries) (at weight : ℕ) → location_sums (set_value_at entries at weight)
-    ≡ set (location_sums entries) at (record { ids = (sum_at (location_sums entries) at).ids; weight = weight })
-value-set [] at weight = refl
-value-set (entry ∷ entries) zero weight = refl
-value-set (entry ∷ entries) (suc at) weight = ap (λ sums. location_sum entry ∷ sums) (value-set entries at weight)
-
-value-at : (entries : Entries) (at weight : ℕ)
-    → slice_get (values_of entries) at ≡ Some weight → (sum_at (location_sums entries) at).weight ≡ weight
-value-at [] at weight is = grind (arith, common_steps)
-value-at (entry ∷ entries) zero weight is = grind (arith, common_steps)
-value-at (entry ∷ entries) (suc at) weight is = grind (arith, common_steps, value-at entries at weight)
-
-pub sums-raised : (entries : Entries) (at before weight : ℕ) → slice_get (values_of entries) at ≡ Some before
-    → location_sums (set_value_at entries at (before + weight)) ≡ with_raised_at (location_sums entries) at weight
-sums-raised entries at before weight is =
-    let sums = location_sums entries in
-    value-set entries at (before + weight)
+-- a list weighs more
+pub weights_raised : (lists : List (List ℕ)) (weights : List ℕ) (at before weight : ℕ)
+    → length weights ≡ length lists → at < length lists → before ≡ get_or weights at before
+    → location_sums lists (set weights at (before + weight)) ≡ with_raised_at (location_sums lists weights) at weight
+weights_raised lists weights at before weight same lt is =
+    let sums = location_sums lists weights in
+    weights_set lists weights at (before + weight) same
     ∙ ap (λ w. set sums at (record { ids = (sum_at sums at).ids; weight = w + weight }))
-    (sym (value-at entries at before is))
+    (sym (weight_there lists weights at before same lt is))
+
+-- and no more than all
+pub weight_within : (lists : List (List ℕ)) (weights : List ℕ) (at before : ℕ)
+    → length weights ≡ length lists → at < length lists → before ≡ get_or weights at before
+    → before ≤ total_of_sums (location_sums lists weights)
+weight_within lists weights at before same lt is =
+    let most = get_or-le-sum_by (λ (sum : LocationSum). sum.weight) (location_sums lists weights) at none
+    (omega (arith, lt, many_sums lists weights same)) in
+    omega (arith, most, weight_there lists weights at before same lt is)
 
 pub total_of_sums-raised : (sums : List LocationSum) (at weight : ℕ) → at < length sums
     → total_of_sums (with_raised_at sums at weight) ≡ total_of_sums sums + weight
@@ -101,12 +94,20 @@ total_of_sums-raised sums at weight lt =
           (record { ids = (sum_at sums at).ids; weight = (sum_at sums at).weight + weight }) none lt,
     )
 
--- a list weighs no more than all
-pub value-within : (entries : Entries) (at before : ℕ) → at < length (location_sums entries)
-    → slice_get (values_of entries) at ≡ Some before → before ≤ total_of_sums (location_sums entries)
-value-within entries at before lt is =
-    let most = get_or-le-sum_by (λ (sum : LocationSum). sum.weight) (location_sums entries) at none lt in
-    omega (arith, most, value-at entries at before is)
+-- ---- the lists of sums
+
+abbrev pub lists_of : List LocationSum → List (List ℕ)
+lists_of sums = map (λ (sum : LocationSum). sum.ids) sums
+
+pub lists_of-without : (lists : List (List ℕ)) → lists_of (sums_without_weight lists) ≡ lists
+lists_of-without [] = refl
+lists_of-without (ids ∷ lists) = ap (λ all. ids ∷ all) (lists_of-without lists)
+
+pub lists_of-raised : (sums : List LocationSum) (at weight : ℕ)
+    → lists_of (with_raised_at sums at weight) ≡ lists_of sums
+lists_of-raised [] at weight = refl
+lists_of-raised (sum ∷ sums) zero weight = refl
+lists_of-raised (sum ∷ sums) (suc at) weight = ap (λ all. sum.ids ∷ all) (lists_of-raised sums at weight)
 
 -- ---- the rows of lists
 
@@ -115,35 +116,43 @@ pub total_of-rows : (draft : Draft) (sums : List LocationSum) → total_of (rows
 total_of-rows draft [] = refl
 total_of-rows draft (sum ∷ sums) = grind (arith, common_steps, sum_by-cons, total_of-rows draft sums)
 
--- a list's sum is raised
-pub AddsSample-raised : (draft : Draft) (ids : List ℕ) (sums : List LocationSum) (at weight : ℕ) → IsListAt sums ids at
-    → total_of_sums sums + weight < 2 ^ 63 → AddsSample draft ids weight sums (with_raised_at sums at weight)
-AddsSample-raised draft ids sums at weight (lt, is) fits = record {
-  adds = rw rows (AddsRow-added (rows_of_sums draft sums) at weight _ inside
-      (omega (arith, fits, total_of-rows draft sums)) own);
-  stacks = λ deep fit. grind (arith, common_steps);
+-- none weighs anything yet
+pub merged-without : (draft : Draft) (lists : List (List ℕ))
+    → AreMergedSoFar [] (rows_of_sums draft (sums_without_weight lists))
+merged-without draft [] = record { weights = λ stack. refl; total = refl }
+merged-without draft (ids ∷ lists) = record {
+  weights = λ stack. grind (arith, common_steps, sum_by-cons, (merged-without draft lists).weights stack);
+  total = grind (arith, common_steps, sum_by-cons, (merged-without draft lists).total);
 }
-  where
-    inside : at < length (rows_of_sums draft sums)
-    inside = omega (arith, lt, length-map sums (row_of_sum draft))
 
-    rows : rows_of_sums draft (with_raised_at sums at weight) ≡ with_added_at (rows_of_sums draft sums) at weight
-    rows = grind (arith, common_steps, map-set)
+pub FitStacks-without : (draft : Draft) (lists : List (List ℕ)) → FitStacks draft (sums_without_weight lists)
+FitStacks-without draft lists k d lt = λ some.
+    let same = get_or-map sum_without_weight lists k [] d (omega (arith, lt, length-map lists sum_without_weight)) in
+    absurd (omega (arith, rw same at some))
 
-    own : (let r : WeightedStack = record { stack = sample_stack_of draft ids; weight = weight } in r)
-        ≡ record { stack = (row_at (rows_of_sums draft sums) at).stack; weight = weight }
-    own = grind (arith, common_steps)
+module _ (draft : Draft) (ids : List ℕ) (sums : List LocationSum) (at weight : ℕ) (lt : at < length sums)
+    (is : (sum_at sums at).ids ≡ ids) where
+  -- the list of a sample weighs its row more
+  pub AddsRow-raised : total_of_sums sums + weight < 2 ^ 63
+      → AddsRow (rows_of_sums draft sums) (rows_of_sums draft (with_raised_at sums at weight))
+      (record { stack = sample_stack_of draft ids; weight = weight })
+  AddsRow-raised fits = rw rows (AddsRow-added (rows_of_sums draft sums) at weight _ inside
+      (omega (arith, fits, total_of-rows draft sums)) own)
+    where
+      inside : at < length (rows_of_sums draft sums)
+      inside = omega (arith, lt, length-map sums (row_of_sum draft))
 
--- a list is new
-pub AddsSample-push : (draft : Draft) (ids : List ℕ) (weight : ℕ) (sums : List LocationSum)
-    → total_of_sums sums + weight < 2 ^ 63
-    → AddsSample draft ids weight sums (sums ++ (record { ids = ids; weight = weight }) ∷ [])
-AddsSample-push draft ids weight sums fits = record {
-  adds = AddsRow-push (rows_of_sums draft sums) _ _ (map-append (row_of_sum draft) sums _)
-      (omega (arith, fits, total_of-rows draft sums));
-  stacks = λ deep fit. All-push (λ (sum : LocationSum). length (sample_stack_of draft sum.ids) ≤ 65535) sums
-      (record { ids = ids; weight = weight }) fit deep;
-}
+      rows : rows_of_sums draft (with_raised_at sums at weight) ≡ with_added_at (rows_of_sums draft sums) at weight
+      rows = grind (arith, common_steps, map-set)
+
+      own : (let r : WeightedStack = record { stack = sample_stack_of draft ids; weight = weight } in r)
+          ≡ record { stack = (row_at (rows_of_sums draft sums) at).stack; weight = weight }
+      own = grind (arith, common_steps)
+
+  -- and its frames fit
+  pub FitStacks-raised : length (sample_stack_of draft ids) ≤ 65535 → FitStacks draft sums
+      → FitStacks draft (with_raised_at sums at weight)
+  FitStacks-raised deep fit = grind (arith, common_steps)
 
 -- ---- a loop over lists
 
@@ -167,3 +176,11 @@ follows draft sums at sum is fits =
     let own = ap (λ (s : LocationSum). s.weight) (get_or_from_slice_get sums at sum sum is) in
     let total = total_of-rows draft (take at sums) in
     grind (arith, common_steps)
+
+-- one without weight adds nothing
+pub merged-none : (rows sums : List WeightedStack) (row : WeightedStack) → row.weight ≡ 0
+    → AreMergedSoFar rows sums → AreMergedSoFar (rows ++ row ∷ []) sums
+merged-none rows sums row nothing so_far = record {
+  weights = λ stack. grind (arith, common_steps, weight_where-push, so_far.weights stack);
+  total = grind (arith, common_steps, sum_by_push, so_far.total);
+}

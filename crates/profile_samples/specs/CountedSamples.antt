@@ -1,5 +1,5 @@
 -- What the names of a profile's frames weigh, by their numbers.
-use Rattle.std.specs.Prelude.{ℕ, ◌≡◌, ◌<◌, All, List, [], Option, Some, None, length}
+use Rattle.std.specs.Prelude.{ℕ, ◌≡◌, ◌<◌, All, List, length}
 use Rattle.pprof_profile.specs.declared.messages.Draft.{Draft}
 use Rattle.profile_rows.specs.declared.frame_totals.FrameTotals.{FrameTotals}
 use Rattle.profile_rows.specs.declared.weighted_stacks.WeightedStack.{WeightedStack}
@@ -12,7 +12,6 @@ use Rattle.profile_rows.specs.TopList.{AreTotalsOf}
 use Rattle.profile_samples.specs.declared.sampling.ValueChoice.{ValueChoice}
 use Rattle.profile_samples.specs.NameNumbers.{frame_names}
 use Rattle.profile_samples.specs.Batches.{AreStacksOf}
-use Rattle.profile_samples.specs.LocationSums.{LocationSum, rows_of_sums}
 use Rattle.profile_samples.specs.Samples.{frames_of_ids}
 
 -- the numbers of the names of locations, which names stand in their frames
@@ -31,8 +30,3 @@ pub record AreTotalsOfSamples (draft : Draft) (choice : ValueChoice) (totals : F
 pub record HaveCounted (draft : Draft) (rows : List WeightedStack) (tallies : Tallies) : Type 0 where
   pub named : All IsName (frame_names draft)
   pub counted : AreTalliesOf rows (frame_names draft) tallies
-
--- the rows of samples wait to be counted, those of one list of locations as one, or are counted
-abbrev pub AreCounted : Draft → Option (List LocationSum) → Tallies → List WeightedStack → Type 0
-AreCounted draft (Some sums) tallies rows = (rows ≡ rows_of_sums draft sums) × HaveCounted draft [] tallies
-AreCounted draft None tallies rows = HaveCounted draft rows tallies

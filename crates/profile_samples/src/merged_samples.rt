@@ -1,87 +1,95 @@
 //! The rows of a profile's samples, those of the same locations merged into one.
 
-ghost use Rattle.std.specs.Prelude.{[], ◌≡◌, ◌<◌, IfOk, MatchResult, OnOk, Some, length};
+ghost use Rattle.std.specs.Prelude.{◌≡◌, ◌<◌, IfOk, MatchResult, OnOk, Some, length};
+ghost use Rattle.pprof_profile.specs.Valid.{IsValidDraft};
 ghost use Rattle.profile_samples.specs.declared.sampling.ValueChoice.{ValueChoice};
 ghost use Rattle.profile_rows.specs.Aggregate.{aggregate_of};
+ghost use Rattle.profile_rows.specs.Merging.{AreMergedSoFar};
 ghost use Rattle.profile_samples.specs.Samples.{chosen_types_of};
 ghost use Rattle.profile_samples.specs.Batches.{GivesOfStacks, IsStacksWorkFault, StandsAtSample};
-ghost use Rattle.profile_samples.specs.LocationSums.{AreSampleSums, FitStacks, rows_of_sums};
+ghost use Rattle.profile_samples.specs.LocationSums.{AreSampleSums, FitStacks, rows_of_sums, sums_without_weight};
 ghost use Rattle.profile_samples.specs.MergedSamples.{IsMergedBatch};
 
 use crate::location_sums::LocationSums;
 use crate::name_numbers::NumberedFrames;
 use crate::sampling::{BatchFault, ValueChoice, chosen_value, sample_weight};
 use basics::NoMemory;
-use pprof_profile::Profile;
+use pprof_profile::{Draft, Profile, SamplesByList};
 use profile_rows::{Hashing, WeightedStacks};
 use std::alloc::Global;
 
-/// Sums the samples of a profile by their locations and the values at an index. Where memory runs out, the samples
-/// before have no fault, nor has the one at hand.
-fn sum_samples<'a>(
-    profile: &'a Profile,
+/// Sums the samples of a valid draft by their locations and the values at an index.
+pub(crate) fn sum_samples(
+    draft: &Draft,
     frames: &NumberedFrames,
-    sums: &mut LocationSums<'a>,
+    samples: &SamplesByList,
+    sums: &mut LocationSums,
     chosen: usize,
 ) -> Result<(), BatchFault>
-    requires framed { frames.now ≡ profile.now }
-    requires typed { chosen < length profile.now.sample_types }
-    requires none { sums.old ≡ [] }
-    ensures sums { (choice : ValueChoice) → chosen_types_of profile.now choice ≡ Some (chosen, 1)
-        → MatchResult result (λ done. AreSampleSums profile.now choice sums.new)
-        (λ fault. StandsAtSample 1 profile.now choice fault) }
+    requires valid { IsValidDraft draft.now }
+    requires framed { frames.now ≡ draft.now }
+    requires typed { chosen < length draft.now.sample_types }
+    requires own { samples.now.samples ≡ draft.now.samples }
+    requires none { sums.old ≡ sums_without_weight samples.now.lists }
+    ensures sums { (choice : ValueChoice) → chosen_types_of draft.now choice ≡ Some (chosen, 1)
+        → MatchResult result (λ done. AreSampleSums draft.now choice sums.new)
+        (λ fault. StandsAtSample 1 draft.now choice fault) }
     ensures stacks { OnOk result (FitStacks frames.now sums.new) }
 {
-    let samples = &profile.draft().samples;
     for index in 0..samples.len() {
         let sample = samples.at(index);
         let weight = sample_weight(frames, chosen, &sample, sums.total(), index as u64)?;
-        sums.add(sample.location_ids(), weight)?;
+        sums.add(samples.number_at(index), weight);
     }
     Ok(())
 }
 
-/// The rows of lists of locations.
+/// The rows of lists of locations, where they weigh something.
 fn stacks_of(
     alloc: Global,
     frames: &NumberedFrames,
     sums: &LocationSums,
 ) -> Result<WeightedStacks, NoMemory>
     requires { FitStacks frames.now sums.now }
-    ensures { IfOk result (λ stacks. stacks ≡ rows_of_sums frames.now sums.now) }
+    ensures { IfOk result (AreMergedSoFar (rows_of_sums frames.now sums.now)) }
 {
-    let mut stacks = WeightedStacks::with_capacity(alloc, sums.len())?;
-    for index in 0..sums.len() {
-        let (ids, weight) = sums.at(index);
-        let stack = frames.stack_at(alloc, ids)?;
-        stacks.push(stack, weight).map_err(|_| NoMemory)?;
+    let mut stacks = WeightedStacks::new(alloc);
+    for number in 0..sums.len() {
+        let (ids, weight) = sums.at(number);
+        if weight > 0 {
+            let stack = frames.stack_at(alloc, ids)?;
+            stacks.push(stack, weight).map_err(|_| NoMemory)?;
+        }
     }
     Ok(stacks)
 }
 
-/// The rows of a profile's samples by the values at an index, those of the same locations merged by sums, of which
-/// there are none yet. Where memory runs out at a sample, the samples before have no fault, nor has this one.
-fn merged_by<'a>(
+/// The rows of a valid draft's samples by the values at an index, those of the same locations merged by sums. Where
+/// memory runs out, no sample has a fault.
+fn merged_by(
     alloc: Global,
-    profile: &'a Profile,
+    draft: &Draft,
     frames: &NumberedFrames,
-    sums: &mut LocationSums<'a>,
+    samples: &SamplesByList,
+    sums: &mut LocationSums,
     chosen: usize,
 ) -> Result<WeightedStacks, BatchFault>
-    requires framed { frames.now ≡ profile.now }
-    requires typed { chosen < length profile.now.sample_types }
-    requires none { sums.old ≡ [] }
-    ensures { (choice : ValueChoice) → chosen_types_of profile.now choice ≡ Some (chosen, 1)
-        → MatchResult result (λ merged. IsMergedBatch profile.now choice merged)
-        (λ fault. IsStacksWorkFault profile.now choice fault) }
+    requires valid { IsValidDraft draft.now }
+    requires framed { frames.now ≡ draft.now }
+    requires typed { chosen < length draft.now.sample_types }
+    requires own { samples.now.samples ≡ draft.now.samples }
+    requires none { sums.old ≡ sums_without_weight samples.now.lists }
+    ensures { (choice : ValueChoice) → chosen_types_of draft.now choice ≡ Some (chosen, 1)
+        → MatchResult result (λ merged. IsMergedBatch draft.now choice merged)
+        (λ fault. IsStacksWorkFault draft.now choice fault) }
 {
-    sum_samples(profile, frames, sums, chosen)?;
+    sum_samples(draft, frames, samples, sums, chosen)?;
     Ok(stacks_of(alloc, frames, sums)?)
 }
 
 /// The rows of a profile's samples by one value, those of the same locations merged and their weights summed: as
-/// [`batch_of`](crate::batch_of), and every report on them is the same, in fewer rows. `hashing` says how ids and lists
-/// of locations are hashed.
+/// [`batch_of`](crate::batch_of), and every report on them is the same, in fewer rows. `hashing` says how names and ids
+/// are hashed.
 ///
 /// # Errors
 ///
@@ -95,8 +103,10 @@ pub fn merge_samples(
     ensures { GivesOfStacks profile.now choice.entry (IsMergedBatch profile.now choice.entry)
         (λ rows merged. aggregate_of merged ≡ aggregate_of rows) result }
 {
-    let chosen = chosen_value(alloc, profile.draft(), choice)?;
+    let draft = profile.draft();
+    let chosen = chosen_value(alloc, draft, choice)?;
     let frames = NumberedFrames::new(alloc, hashing, profile)?;
-    let mut sums = LocationSums::new(alloc, hashing);
-    merged_by(alloc, profile, &frames, &mut sums, chosen)
+    let samples = draft.samples.by_list();
+    let mut sums = LocationSums::new(alloc, &samples)?;
+    merged_by(alloc, draft, &frames, &samples, &mut sums, chosen)
 }

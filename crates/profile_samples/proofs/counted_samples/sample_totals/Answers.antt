@@ -17,24 +17,27 @@ pub returns-in_err-frames : goal.returns-in_err-frames
 returns-in_err-frames c =
     gives_totals c.args.profile.now c.args.choice c.from_residual-in_err-frames.result
     (memory_first (AreTotalsOfSamples c.args.profile.now c.args.choice) 1 c.args.profile.now c.args.choice
-    c.in_ok-chosen.chosen 1 c.from_residual-in_err-frames.result (rw c.draft.ensures.draft at c.in_ok-chosen.ensures)
+    c.in_ok-chosen.chosen 1 c.from_residual-in_err-frames.result (rw c.draft-draft.ensures.draft at c.in_ok-chosen.ensures)
     (omega arith) (grind (arith, common_steps, err_from_is_err_and)))
 
-pub returns-in_err-counting : goal.returns-in_err-counting
-returns-in_err-counting c =
-    gives_totals c.args.profile.now c.args.choice c.from_residual-in_err-counting.result
+pub returns-in_err-sums : goal.returns-in_err-sums
+returns-in_err-sums c =
+    gives_totals c.args.profile.now c.args.choice c.from_residual-in_err-sums.result
     (memory_first (AreTotalsOfSamples c.args.profile.now c.args.choice) 1 c.args.profile.now c.args.choice
-    c.in_ok-chosen.chosen 1 c.from_residual-in_err-counting.result (rw c.draft.ensures.draft at c.in_ok-chosen.ensures)
+    c.in_ok-chosen.chosen 1 c.from_residual-in_err-sums.result (rw c.draft-draft.ensures.draft at c.in_ok-chosen.ensures)
     (omega arith) (grind (arith, common_steps, err_from_is_err_and)))
+
+pub totals_by-requires-clause-valid : goal.totals_by-requires-clause-valid
+totals_by-requires-clause-valid c = rw c.draft-draft.ensures.draft c.draft-draft.ensures.valid
 
 pub totals_by-requires-clause-typed : goal.totals_by-requires-clause-typed
 totals_by-requires-clause-typed c =
-    let within = chosen_types_within c.args.profile.now c.args.choice c.in_ok-chosen.chosen 1
-    (rw c.draft.ensures.draft at c.in_ok-chosen.ensures) in
+    let within = chosen_types_within c.draft-draft.result.now c.args.choice c.in_ok-chosen.chosen 1
+    c.in_ok-chosen.ensures in
     omega (arith, within)
 
 pub returns : goal.returns
 returns c =
     gives_totals c.args.profile.now c.args.choice c.totals_by.result
-    (first_of_work (AreTotalsOfSamples c.args.profile.now c.args.choice) c.args.profile.now c.args.choice
-    c.totals_by.result (c.totals_by.ensures c.args.choice (rw c.draft.ensures.draft at c.in_ok-chosen.ensures)))
+    (first_of_work (AreTotalsOfSamples c.args.profile.now c.args.choice) c.args.profile.now c.args.choice c.totals_by.result
+    (rw c.draft-draft.ensures.draft at (c.totals_by.ensures c.args.choice c.in_ok-chosen.ensures)))

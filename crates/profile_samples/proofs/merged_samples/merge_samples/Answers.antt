@@ -17,15 +17,27 @@ pub returns-in_err-frames : goal.returns-in_err-frames
 returns-in_err-frames c =
     gives_merged c.args.profile.now c.args.choice c.from_residual-in_err-frames.result
     (memory_first (IsMergedBatch c.args.profile.now c.args.choice) 1 c.args.profile.now c.args.choice
-    c.in_ok-chosen.chosen 1 c.from_residual-in_err-frames.result (rw c.draft.ensures.draft at c.in_ok-chosen.ensures)
+    c.in_ok-chosen.chosen 1 c.from_residual-in_err-frames.result (rw c.draft-draft.ensures.draft at c.in_ok-chosen.ensures)
     (omega arith) (grind (arith, common_steps, err_from_is_err_and)))
+
+pub returns-in_err-sums : goal.returns-in_err-sums
+returns-in_err-sums c =
+    gives_merged c.args.profile.now c.args.choice c.from_residual-in_err-sums.result
+    (memory_first (IsMergedBatch c.args.profile.now c.args.choice) 1 c.args.profile.now c.args.choice
+    c.in_ok-chosen.chosen 1 c.from_residual-in_err-sums.result (rw c.draft-draft.ensures.draft at c.in_ok-chosen.ensures)
+    (omega arith) (grind (arith, common_steps, err_from_is_err_and)))
+
+pub merged_by-requires-clause-valid : goal.merged_by-requires-clause-valid
+merged_by-requires-clause-valid c = rw c.draft-draft.ensures.draft c.draft-draft.ensures.valid
 
 pub merged_by-requires-clause-typed : goal.merged_by-requires-clause-typed
 merged_by-requires-clause-typed c =
-    let within = chosen_types_within c.args.profile.now c.args.choice c.in_ok-chosen.chosen 1
-    (rw c.draft.ensures.draft at c.in_ok-chosen.ensures) in
+    let within = chosen_types_within c.draft-draft.result.now c.args.choice c.in_ok-chosen.chosen 1
+    c.in_ok-chosen.ensures in
     omega (arith, within)
 
 pub returns : goal.returns
 returns c =
-    gives_merged c.args.profile.now c.args.choice c.merged_by.result (grind (arith, common_steps, first_of_work))
+    gives_merged c.args.profile.now c.args.choice c.merged_by.result
+    (first_of_work (IsMergedBatch c.args.profile.now c.args.choice) c.args.profile.now c.args.choice c.merged_by.result
+    (rw c.draft-draft.ensures.draft at (c.merged_by.ensures c.args.choice c.in_ok-chosen.ensures)))

@@ -12,8 +12,8 @@ on_err : {T E P : Type 0} (r : Result T E) → P → OnErr r P
 on_err (Ok value) p = tt
 on_err (Err fault) p = p
 
-pub returns-in_err-location_ids-clause-unchanged : goal.returns-in_err-location_ids-clause-unchanged
-returns-in_err-location_ids-clause-unchanged c = grind (arith, common_steps, samples_grown, grows_not, on_err)
+pub returns-in_err-list-clause-unchanged : goal.returns-in_err-list-clause-unchanged
+returns-in_err-list-clause-unchanged c = grind (arith, common_steps, samples_grown, grows_not, on_err)
 
 pub returns-in_err-values-clause-unchanged : goal.returns-in_err-values-clause-unchanged
 returns-in_err-values-clause-unchanged c = grind (arith, samples_grown, grows_not, on_err)
@@ -30,12 +30,12 @@ returns-in_err-push-clause-unchanged c = grind (arith, samples_grown, on_err)
 pub invariant_of-self-2 : goal.invariant_of-self-2
 invariant_of-self-2 c =
     rw c.in_ok-push.ensures.items
-    (All-push (AreWithin c.append.new.all.items c.append-2.new.all.items c.append-3.new.all.items)
+    (All-push (AreWithin c.number_with.new.self c.append.new.all.items c.append-2.new.all.items)
     c.self.inside.spans.items _
-    (all_within_grown _ _ _ _ _ _ c.append.ensures.kept c.append-2.ensures.kept c.append-3.ensures.kept _
+    (all_within_grown _ _ _ _ _ _ c.number_with.ensures.kept c.append.ensures.kept c.append-2.ensures.kept _
     c.self.invariant)
     (record {
-      location_ids_are = c.in_ok-location_ids.ensures.within;
+      list_is = c.in_ok-list.ensures.list.0;
       values_are = c.in_ok-values.ensures.within;
       labels_are = c.in_ok-labels.ensures.within;
     }))

@@ -75,15 +75,6 @@ impl<T> Items<T> {
         self.items.clear();
     }
 
-    /// Adds copies of items at the end. `NoMemory` where there is none; the items stay as they were.
-    pub fn extend(&mut self, more: &[T]) -> Result<(), NoMemory>
-    where
-        T: Copy,
-        ensures { OnOk result (self.new ≡ self.old ++ more.now) }
-    {
-        Ok(self.items.extend_from_slice(more)?)
-    }
-
     /// Adds an item at the end. Where memory runs out the items are as they were, and the new one is handed back.
     pub fn push(&mut self, item: T) -> Result<(), AllocFailed<T>>
         ensures pushed { OnOk result (self.new ≡ self.old ++ item ∷ []) }

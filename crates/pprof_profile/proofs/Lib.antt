@@ -3,6 +3,7 @@ pub mod Appending
 pub mod FieldKinds
 pub mod Forms
 pub mod Gathering
+pub mod IdsBefore
 pub mod KnownIds
 pub mod LawfulForms
 pub mod LocationLists

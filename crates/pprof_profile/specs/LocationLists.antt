@@ -1,6 +1,8 @@
 -- Lists of location ids, each with the packed bytes that spell it.
-use Rattle.std.specs.Prelude.{ℕ, ◌<◌, List, [], length, slice_index_or}
-use Rattle.basics.specs.Spans.{IsWithin, items_at}
+use Rattle.std.specs.Prelude.{ℕ, ◌≡◌, ◌<◌, IfOk, List, MatchOption, None, Option, Result, Some, [], length}
+use Rattle.std.specs.Prelude.{slice_index_or, ⊤}
+use Rattle.basics.specs.Spans.{Grows, IsWithin, items_at}
+use Rattle.std.specs.declared.alloc.AllocError.{AllocError}
 use Rattle.pprof_profile.specs.Forms.{unsigned_of}
 use Rattle.pprof_profile.specs.Reading.{IsUnpacked}
 use Rattle.pprof_profile.specs.declared.location_lists.ListSpans.{ListSpans}
@@ -18,7 +20,21 @@ abbrev pub IsSpelling : List ℕ → List ℕ → Type 0
 IsSpelling bytes ids = IsUnpacked unsigned_of [] bytes ids
 
 -- a list and its spelling stand there, where it has one
-pub record IsListed (ids bytes : List ℕ) (spans : ListSpans) : Type 0 where
+pub record IsSpelledList (ids bytes : List ℕ) (spans : ListSpans) : Type 0 where
   pub ids_are : IsWithin ids spans.ids
   pub bytes_are : IsWithin bytes spans.spelling
   pub spelled : 0 < length (items_at bytes spans.spelling) → IsSpelling (items_at bytes spans.spelling) (ids_of ids spans)
+
+-- there is a list of this number, where there is a number
+abbrev pub IsListed : Option ℕ → List (List ℕ) → Type 0
+IsListed number lists = MatchOption number ⊤ (λ at. at < length lists)
+
+-- the ids of the list that others begin with, where they do
+abbrev pub begun_ids : List (List ℕ) → Option ℕ → List ℕ
+begun_ids lists None = []
+begun_ids lists (Some number) = list_at lists number
+
+-- The lists have grown, if at all, and the number is that of a list of these ids.
+pub record HasNumber (old new : List (List ℕ)) (ids : List ℕ) (result : Result ℕ AllocError) : Type 0 where
+  pub kept : Grows old new
+  pub list : IfOk result (λ number. (number < length new) × (list_at new number ≡ ids))

@@ -1,5 +1,5 @@
 -- Samples whose parts stand together.
-use Rattle.std.specs.Prelude.{ℕ, ℤ, ◌<◌, List, length}
+use Rattle.std.specs.Prelude.{ℕ, ℤ, ◌<◌, ◌++◌, List, length}
 use Rattle.basics.specs.Spans.{IsWithin, items_at}
 use Rattle.pprof_profile.specs.LocationLists.{list_at}
 use Rattle.pprof_profile.specs.declared.messages.Label.{Label}
@@ -25,3 +25,11 @@ pub record AreWithin (lists : List (List ℕ)) (values : List ℤ) (labels : Lis
 pub record ListedSamples : Type 0 where
   pub samples : List Sample
   pub lists : List (List ℕ)
+
+-- the sample with these ids before its own
+abbrev pub with_ids_before : List ℕ → Sample → Sample
+with_ids_before ids sample = record {
+  location_ids = ids ++ sample.location_ids;
+  values = sample.values;
+  labels = sample.labels;
+}

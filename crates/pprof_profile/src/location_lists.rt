@@ -1,9 +1,8 @@
 //! The lists of location ids of samples: in a profile the same list comes again and again.
 
-ghost use Rattle.std.specs.Prelude.{◌≡◌, ◌<◌, ◌++◌, ◌∷◌, [], IfOk, IfSome, OnErr, OnOk, length};
+ghost use Rattle.std.specs.Prelude.{◌≡◌, ◌<◌, ◌++◌, ◌∷◌, [], IfSome, MatchResult, length};
 ghost use Rattle.std.specs.Bool.{OnTrue};
-ghost use Rattle.basics.specs.Spans.{Grows};
-ghost use Rattle.pprof_profile.specs.LocationLists.{IsSpelling, list_at};
+ghost use Rattle.pprof_profile.specs.LocationLists.{HasNumber, IsListed, IsSpelling, begun_ids, list_at};
 
 use basics::{Span, append};
 use std::alloc::{AllocError, Global};
@@ -89,13 +88,13 @@ pub(crate) struct LocationLists {
 
 impl Model for LocationLists {
     ghost use Rattle.std.specs.Prelude.{All, List, ℕ, map};
-    ghost use Rattle.pprof_profile.specs.LocationLists.{IsListed, ids_of};
+    ghost use Rattle.pprof_profile.specs.LocationLists.{IsSpelledList, ids_of};
 
     ghost Value = { List (List ℕ) };
 
     ghost view = { λ lists. map (ids_of lists.ids.items) lists.lists.items };
 
-    ghost invariant = { λ lists. All (IsListed lists.ids.items lists.bytes.items) lists.lists.items };
+    ghost invariant = { λ lists. All (IsSpelledList lists.ids.items lists.bytes.items) lists.lists.items };
 }
 
 impl LocationLists {
@@ -161,9 +160,8 @@ impl LocationLists {
     /// Adds a list, and what spells it, where that is known. Gives its number.
     pub fn push(&mut self, ids: &[u64], spelling: &[u8]) -> Result<u32, AllocError>
         requires { 0 < length spelling.now → IsSpelling spelling.now ids.now }
-        ensures added { OnOk result (self.new ≡ self.old ++ ids.now ∷ []) }
-        ensures number { IfOk result (λ number. number ≡ length self.old) }
-        ensures kept { OnErr result (self.new ≡ self.old) }
+        ensures { MatchResult result (λ number. (number ≡ length self.old) × (self.new ≡ self.old ++ ids.now ∷ []))
+            (λ fault. self.new ≡ self.old) }
     {
         let number = u32::try_from(self.lists.len()).map_err(|_| AllocError)?;
         self.guesses.reach(self.lists.as_slice())?;
@@ -180,9 +178,8 @@ impl LocationLists {
     }
 
     /// The number of this list: the one that is guessed, where that is right, or else the one that it gets now.
-    pub fn number_with(&mut self, ids: &[u64], guess: Option<u32>) -> Result<u32, AllocError>
-        ensures list { IfOk result (λ number. (number < length self.new) × (list_at self.new number ≡ ids.now)) }
-        ensures kept { Grows self.old self.new }
+    fn number_with(&mut self, ids: &[u64], guess: Option<u32>) -> Result<u32, AllocError>
+        ensures { HasNumber self.old self.new ids.now result }
     {
         if let Some(number) = guess {
             if (number as usize) < self.len() && self.at(number as usize) == ids {
@@ -190,5 +187,35 @@ impl LocationLists {
             }
         }
         self.push(ids, &[])
+    }
+
+    /// Adds the list of a number with more ids after it. Gives the new one's number.
+    fn push_longer(&mut self, number: usize, more: &[u64]) -> Result<u32, AllocError>
+        requires { number < length self.old }
+        ensures { HasNumber self.old self.new (list_at self.old number ++ more.now) result }
+    {
+        let first = self.at(number);
+        let mut ids = Vec::with_capacity(*self.ids.allocator(), first.len())?;
+        ids.extend_from_slice(first)?;
+        ids.extend_from_slice(more)?;
+        self.push(ids.as_slice(), &[])
+    }
+
+    /// The number of the list of these ids, after those of the list that they begin with, if any. It may be the one
+    /// that is guessed.
+    pub fn number_after(
+        &mut self,
+        begun: Option<u32>,
+        more: &[u64],
+        guess: Option<u32>,
+    ) -> Result<u32, AllocError>
+        requires { IsListed begun self.old }
+        ensures { HasNumber self.old self.new (begun_ids self.old begun ++ more.now) result }
+    {
+        match begun {
+            None => self.number_with(more, guess),
+            Some(number) if more.is_empty() => Ok(number),
+            Some(number) => self.push_longer(number as usize, more),
+        }
     }
 }

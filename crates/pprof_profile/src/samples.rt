@@ -1,15 +1,14 @@
 //! The samples of a profile, whose parts stand together: a profile has many.
 
 ghost use Rattle.std.specs.Prelude.{◌≡◌, ◌≢◌, ◌<◌, ◌^◌, ◌++◌, ◌∷◌, [], Err, List, Ok, Some, length, slice_get, IfErr};
-ghost use Rattle.std.specs.Prelude.{OnErr};
-ghost use Rattle.std.specs.Prelude.{OnOk};
+ghost use Rattle.std.specs.Prelude.{MatchResult, OnErr, OnOk};
 ghost use Rattle.pprof_wire.specs.Fields.{value_of};
 ghost use Rattle.pprof_profile.specs.declared.faults.ProfileFault.{ProfileFault};
-ghost use Rattle.pprof_profile.specs.Forms.{table_of, unsigned_of};
-ghost use Rattle.pprof_profile.specs.LocationLists.{list_at};
+ghost use Rattle.pprof_profile.specs.Forms.{table_of};
+ghost use Rattle.pprof_profile.specs.LocationLists.{IsListed, IsSpelling, begun_ids, list_at};
 ghost use Rattle.pprof_profile.specs.Messages.{no_sample, sample_form};
 ghost use Rattle.pprof_profile.specs.Reading.{AddsMessage, IsAppended, IsFirstFieldFault, IsPackedFault, IsReadSoFar};
-ghost use Rattle.pprof_profile.specs.Reading.{IsUnpacked};
+ghost use Rattle.pprof_profile.specs.SampleLists.{with_ids_before};
 ghost use Rattle.pprof_profile.specs.declared.messages.Sample.{Sample};
 
 use crate::faults::ProfileFault;
@@ -131,14 +130,13 @@ impl<'a> SamplesByList<'a> {
 
     /// The number of the list of the sample at an index.
     #[inline(always)]
-    pub fn number_at(&self, index: usize) -> usize
+    pub fn number_at(&self, index: usize) -> u32
         requires { index < length self.now.samples }
         ensures inside { result < length self.now.lists }
-        ensures fits { result < 2 ^ 32 }
         ensures list { (sample : Sample) → slice_get self.now.samples index ≡ Some sample
             → sample.location_ids ≡ list_at self.now.lists result }
     {
-        spans_at(self.spans, index).list as usize
+        spans_at(self.spans, index).list
     }
 
     /// How many lists there are. A list may have other numbers too, and some may be no sample's.
@@ -157,7 +155,7 @@ impl<'a> SamplesByList<'a> {
     }
 }
 
-/// Samples in order: the parts of all stand together. A contract sees the samples.
+/// Samples in order: the parts of all stand together. A contract sees the samples and the lists of location ids.
 #[derive(Drop)]
 pub(crate) struct SampleLists {
     spans: Vec<SampleSpans>,
@@ -167,14 +165,15 @@ pub(crate) struct SampleLists {
 }
 
 impl Model for SampleLists {
-    ghost use Rattle.std.specs.Prelude.{All, List, map};
-    ghost use Rattle.pprof_profile.specs.declared.messages.Sample.{Sample};
-    ghost use Rattle.pprof_profile.specs.SampleLists.{AreWithin, sample_at};
+    ghost use Rattle.std.specs.Prelude.{All, map};
+    ghost use Rattle.pprof_profile.specs.SampleLists.{AreWithin, ListedSamples, sample_at};
 
-    ghost Value = { List Sample };
+    ghost Value = { ListedSamples };
 
-    ghost view = { λ lists.
-        map (sample_at lists.locations lists.values.items lists.labels.items) lists.spans.items };
+    ghost view = { λ lists. record {
+      samples = map (sample_at lists.locations lists.values.items lists.labels.items) lists.spans.items;
+      lists = lists.locations;
+    } };
 
     ghost invariant = { λ lists.
         All (AreWithin lists.locations lists.values.items lists.labels.items) lists.spans.items };
@@ -183,7 +182,7 @@ impl Model for SampleLists {
 impl SampleLists {
     /// No samples. Takes no memory.
     fn empty(alloc: Global) -> SampleLists
-        ensures { result ≡ [] }
+        ensures { result ≡ record { samples = []; lists = [] } }
     {
         SampleLists {
             spans: Vec::new(alloc),
@@ -193,16 +192,18 @@ impl SampleLists {
         }
     }
 
-    /// Adds a copy of a sample, whose list may have the number that is guessed. Where memory runs out the samples are
-    /// as they were.
-    pub(crate) fn push(&mut self, sample: &Sample, guess: Option<u32>) -> Result<(), AllocError>
-        ensures pushed { OnOk result (self.new ≡ self.old ++ sample.now ∷ []) }
-        ensures unchanged { OnErr result (self.new ≡ self.old) }
+    /// Adds a copy of a sample, whose ids stand after those of a list where it begins with one. Where memory runs out
+    /// the samples are as they were.
+    pub(crate) fn push(&mut self, begun: Option<u32>, sample: &Sample) -> Result<(), AllocError>
+        requires { IsListed begun self.old.lists }
+        ensures pushed { OnOk result (self.new.samples
+            ≡ self.old.samples ++ with_ids_before (begun_ids self.old.lists begun) sample.now ∷ []) }
+        ensures unchanged { OnErr result (self.new.samples ≡ self.old.samples) }
     {
-        let guess = guess.or(self.spans.last().map(|spans| spans.list));
+        let last = self.spans.last().map(|spans| spans.list);
         let list = self
             .locations
-            .number_with(sample.location_ids.as_slice(), guess)?;
+            .number_after(begun, sample.location_ids.as_slice(), last)?;
         let values = append(&mut self.values, sample.values.as_slice())?;
         let labels = append(&mut self.labels, sample.labels.as_slice())?;
         self.spans.push(SampleSpans {
@@ -213,24 +214,26 @@ impl SampleLists {
         Ok(())
     }
 
-    /// Puts the ids that these bytes spell in a place without ids. Those that came before are copied. Gives the number
-    /// of their list.
+    /// The number of the list that these bytes spell, which is read into a place without ids where it isn't known. The
+    /// place has none after it either.
     fn take_list(&mut self, ids: &mut Items<u64>, packed: &[u8]) -> Result<u32, ProfileFault>
         requires { ids.old ≡ [] }
-        ensures taken { OnOk result (IsUnpacked unsigned_of [] packed.now ids.new) }
-        ensures fault { IfErr result (λ fault. fault ≢ ProfileFault.NoMemory → IsPackedFault packed.now fault) }
-        ensures kept { self.new ≡ self.old }
+        ensures taken { MatchResult result (λ number. (ids.new ≡ []) × (number < length self.new.lists)
+            × IsSpelling packed.now (list_at self.new.lists number))
+            (λ fault. fault ≢ ProfileFault.NoMemory → IsPackedFault packed.now fault) }
+        ensures kept { self.new.samples ≡ self.old.samples }
     {
         if let Some(number) = self.locations.find(packed) {
-            ids.extend(self.locations.at(number as usize))?;
             return Ok(number);
         }
         push_packed(ids, packed)?;
-        Ok(self.locations.push(ids.as_slice(), packed)?)
+        let number = self.locations.push(ids.as_slice(), packed)?;
+        ids.clear();
+        Ok(number)
     }
 
-    /// Takes a field of a sample that is read, which has no ids yet. Where it has packed ids, it gives the number of
-    /// their list.
+    /// Takes a field of a sample that is read, which has no ids yet. Where it has packed ids, these stay out of the
+    /// sample, and it gives the number of their list.
     fn take_field(
         &mut self,
         alloc: Global,
@@ -238,11 +241,12 @@ impl SampleLists {
         field: Field,
     ) -> Result<Option<u32>, ProfileFault>
         requires { sample.old.location_ids ≡ [] }
-        ensures taken { OnOk result (table_of sample_form sample.old field.entry.number (value_of field.entry.value)
-            (Ok sample.new)) }
-        ensures fault { IfErr result (λ fault. fault ≢ ProfileFault.NoMemory
+        ensures taken { MatchResult result (λ begun. IsListed begun self.new.lists
+            × table_of sample_form sample.old field.entry.number (value_of field.entry.value)
+            (Ok (with_ids_before (begun_ids self.new.lists begun) sample.new)))
+            (λ fault. fault ≢ ProfileFault.NoMemory
             → table_of sample_form sample.old field.entry.number (value_of field.entry.value) (Err fault)) }
-        ensures kept { self.new ≡ self.old }
+        ensures kept { self.new.samples ≡ self.old.samples }
     {
         match field.value {
             Value::Bytes(packed) if field.number == 1 => {
@@ -255,8 +259,8 @@ impl SampleLists {
         }
     }
 
-    /// Takes the first field of a sample that is read, of which nothing was taken before. Where it has packed ids, it
-    /// gives the number of their list.
+    /// Takes the first field of a sample that is read, of which nothing was taken before. Where it has packed ids, these
+    /// stay out of the sample, and it gives the number of their list.
     fn take_first(
         &mut self,
         alloc: Global,
@@ -264,11 +268,12 @@ impl SampleLists {
         fields: &mut Fields,
     ) -> Result<Option<u32>, ProfileFault>
         requires { sample.old ≡ no_sample }
-        ensures read { OnOk result
-            (IsReadSoFar (table_of sample_form) no_sample fields.old.bytes sample.new fields.new.bytes) }
-        ensures fault { IfErr result (λ fault. fault ≢ ProfileFault.NoMemory
+        ensures taken { MatchResult result (λ begun. IsListed begun self.new.lists
+            × IsReadSoFar (table_of sample_form) no_sample fields.old.bytes
+            (with_ids_before (begun_ids self.new.lists begun) sample.new) fields.new.bytes)
+            (λ fault. fault ≢ ProfileFault.NoMemory
             → IsFirstFieldFault (table_of sample_form) no_sample fields.old.bytes fault) }
-        ensures kept { self.new ≡ self.old }
+        ensures kept { self.new.samples ≡ self.old.samples }
     {
         match fields.next_field() {
             Some(Ok(field)) => self.take_field(alloc, sample, field),
@@ -279,7 +284,7 @@ impl SampleLists {
 
     /// These samples, with the numbers of their lists.
     fn by_list(&self) -> SamplesByList<'_>
-        ensures { result.samples ≡ self.now }
+        ensures { result ≡ self.now }
     {
         SamplesByList {
             spans: self.spans.as_slice(),
@@ -304,7 +309,7 @@ impl Model for Samples {
 
     ghost Value = { List Sample };
 
-    ghost view = { λ samples. samples.lists };
+    ghost view = { λ samples. samples.lists.samples };
 }
 
 impl Debug for Samples {
@@ -363,7 +368,7 @@ impl Samples {
         ensures pushed { OnOk result (self.new ≡ self.old ++ sample.now ∷ []) }
         ensures unchanged { OnErr result (self.new ≡ self.old) }
     {
-        Ok(self.lists.push(sample, None)?)
+        Ok(self.lists.push(None, sample)?)
     }
 
     /// Adds the sample that the bytes spell.
@@ -374,10 +379,10 @@ impl Samples {
     {
         self.spare.clear();
         let mut fields = Fields::new(bytes);
-        let list = self.lists.take_first(alloc, &mut self.spare, &mut fields)?;
+        let begun = self.lists.take_first(alloc, &mut self.spare, &mut fields)?;
         take_fields(alloc, &mut self.spare, &mut fields)?;
         let spare = &self.spare;
-        Ok(self.lists.push(spare, list)?)
+        Ok(self.lists.push(begun, spare)?)
     }
 }
 

@@ -76,7 +76,7 @@ fn locations_are_known(known: &KnownIds, samples: &SamplesByList) -> bool
 {
     let mut first = 0;
     for index in 0..samples.len() {
-        let number = samples.number_at(index);
+        let number = samples.number_at(index) as usize;
         if number >= first {
             if !each_is_known(known, samples.list(number)) {
                 return false;

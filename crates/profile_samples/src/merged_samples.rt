@@ -39,7 +39,7 @@ pub(crate) fn sum_samples(
     for index in 0..samples.len() {
         let sample = samples.at(index);
         let weight = sample_weight(frames, chosen, &sample, sums.total(), index as u64)?;
-        sums.add(samples.number_at(index), weight);
+        sums.add(samples.number_at(index) as usize, weight);
     }
     Ok(())
 }

@@ -40,7 +40,7 @@ one_more known lists first before here number lt = grind (arith, common_steps, b
 
 pub overflow_add-first : goal.overflow_add-first
 overflow_add-first c =
-    let fits = c.number_at-number.ensures.fits in let is = c.if-number-first-2.true in omega (arith, fits, is)
+    let fits = c.number_at-number.type_inv in let is = c.if-number-first-2.true in omega (arith, fits, is)
 
 pub returns-then-not-each_is_known : goal.returns-then-not-each_is_known
 returns-then-not-each_is_known c =

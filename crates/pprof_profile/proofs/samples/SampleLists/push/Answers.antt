@@ -30,9 +30,9 @@ returns-in_err-push-clause-unchanged c = grind (arith, samples_grown, on_err)
 pub invariant_of-self-2 : goal.invariant_of-self-2
 invariant_of-self-2 c =
     rw c.in_ok-push.ensures.items
-    (All-push (AreWithin c.number_with.new.self c.append.new.all.items c.append-2.new.all.items)
+    (All-push (AreWithin c.number_after.new.self c.append.new.all.items c.append-2.new.all.items)
     c.self.inside.spans.items _
-    (all_within_grown _ _ _ _ _ _ c.number_with.ensures.kept c.append.ensures.kept c.append-2.ensures.kept _
+    (all_within_grown _ _ _ _ _ _ c.number_after.ensures.kept c.append.ensures.kept c.append-2.ensures.kept _
     c.self.invariant)
     (record {
       list_is = c.in_ok-list.ensures.list.0;

@@ -1,35 +1,37 @@
 -- The first field is taken after nothing.
-use Rattle.std.proofs.Common.{OnOk, Result, Ok, Err, inl, inr, refl}
-use Rattle.std.proofs.lemmas.Result.{IfErr-weaker}
+use Rattle.std.proofs.Common.{Err, Ok, Result, inl, inr, refl}
+use Rattle.std.specs.Prelude.{MatchResult}
 use Rattle.pprof_wire.specs.Fields.{field_of}
 use Rattle.pprof_profile.specs.Forms.{table_of}
+use Rattle.pprof_profile.specs.LocationLists.{begun_ids}
 use Rattle.pprof_profile.specs.Messages.{no_sample, sample_form}
 use Rattle.pprof_profile.specs.Reading.{IsReadSoFar}
+use Rattle.pprof_profile.specs.SampleLists.{with_ids_before}
 use Rattle.pprof_profile.proofs.Gathering.{nothing_read, read_more}
 use Rattle.pprof_profile.proofs.samples.SampleLists.take_first.Goals as goal
 
-on_ok : {T E P Q : Type 0} (r : Result T E) → (P → Q) → OnOk r P → OnOk r Q
-on_ok (Ok value) f p = f p
-on_ok (Err fault) f p = tt
+matched : {T E : Type 0} {P Q : T → Type 0} {R S : E → Type 0} (r : Result T E)
+    → ((value : T) → P value → Q value) → ((fault : E) → R fault → S fault) → MatchResult r P R → MatchResult r Q S
+matched (Ok value) f g p = f value p
+matched (Err fault) f g p = g fault p
 
-pub returns-in-Some-Ok-clause-read : goal.returns-in-Some-Ok-clause-read
-returns-in-Some-Ok-clause-read c = on_ok c.take_field.result (λ taken.
+pub returns-in-Some-Ok-clause-taken : goal.returns-in-Some-Ok-clause-taken
+returns-in-Some-Ok-clause-taken c =
     let bytes = c.args.fields.now.bytes in
     let next = rw c.in-Some-Ok.field-0-is at c.in-Some-Ok.ensures.read.field in
     let nothing : IsReadSoFar (table_of sample_form) no_sample bytes c.args.sample.now bytes =
     rw c.requires (nothing_read (table_of sample_form) no_sample bytes) in
-    read_more (table_of sample_form) no_sample c.args.sample.now c.take_field.new.sample bytes bytes next.spelling
-    c.next_field.new.self.bytes (field_of c.in-Some-Ok.field) nothing next.after.parts next.spelled taken)
-    c.take_field.ensures.taken
-
-pub returns-in-Some-Ok-clause-fault : goal.returns-in-Some-Ok-clause-fault
-returns-in-Some-Ok-clause-fault c =
-    IfErr-weaker c.take_field.result _ _ (λ fault is known.
-    let bytes = c.args.fields.now.bytes in
-    let next = rw c.in-Some-Ok.field-0-is at c.in-Some-Ok.ensures.read.field in record {
+    matched c.take_field.result
+    (λ begun taken. (
+      taken.0,
+      read_more (table_of sample_form) no_sample c.args.sample.now
+          (with_ids_before (begun_ids c.take_field.new.self.lists begun) c.take_field.new.sample) bytes bytes next.spelling
+          c.next_field.new.self.bytes (field_of c.in-Some-Ok.field) nothing next.after.parts next.spelled taken.1,
+    ))
+    (λ fault is known. record {
       so_far = c.args.sample.now;
       rest = bytes;
-      read = rw c.requires (nothing_read (table_of sample_form) no_sample bytes);
+      read = nothing;
       faulty = inl (record {
         spelling = next.spelling;
         rest = c.next_field.new.self.bytes;
@@ -38,10 +40,10 @@ returns-in-Some-Ok-clause-fault c =
         spelled = next.spelled;
         faulty = is known;
       });
-    }) c.take_field.ensures.fault
+    }) c.take_field.ensures.taken
 
-pub returns-in-Some-Err-clause-fault : goal.returns-in-Some-Err-clause-fault
-returns-in-Some-Err-clause-fault c = λ known. record {
+pub returns-in-Some-Err-clause-taken : goal.returns-in-Some-Err-clause-taken
+returns-in-Some-Err-clause-taken c = λ known. record {
   so_far = no_sample;
   rest = c.args.fields.now.bytes;
   read = nothing_read (table_of sample_form) no_sample c.args.fields.now.bytes;

@@ -22,7 +22,7 @@ use profile_rows::{FrameTotals, Hashing, NoMemory};
 use profile_samples::{ValueChoice, export_folded, merge_samples, sample_totals};
 use std::alloc::Global;
 
-/// The text of a report on an input. `hashing` says how its names and lists of locations are hashed.
+/// The text of a report on an input. `hashing` says how its names, stack texts and ids are hashed.
 ///
 /// # Errors
 ///

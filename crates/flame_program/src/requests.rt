@@ -13,7 +13,7 @@ use std::alloc::Global;
 use std::sync::{Arc, Wait};
 use std::thread::Threads;
 
-/// The whole text that is written for an input; `hashing` says how its names and lists of locations are hashed. For
+/// The whole text that is written for an input; `hashing` says how its names, stack texts and ids are hashed. For
 /// `Live`, `progress` hears of each row that is in; threads and a lock are for `Live` alone, and the other requests are
 /// answered by [`report_on`] and [`export`].
 ///

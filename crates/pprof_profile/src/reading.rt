@@ -83,6 +83,7 @@ pub(crate) fn set_number<N: Number>(place: &mut N, value: Value) -> Result<(), P
 }
 
 /// Adds the number of a field, or the numbers that it holds packed.
+#[inline(always)]
 pub(crate) fn push_numbers<N: Number>(
     items: &mut Items<N>,
     value: Value,
@@ -108,6 +109,7 @@ fn count_ends(bytes: &[u8]) -> usize {
 }
 
 /// Adds the packed numbers, with memory for all of them taken at once.
+#[inline(always)]
 pub(crate) fn push_packed<N: Number>(items: &mut Items<N>, bytes: &[u8]) -> Result<(), ProfileFault>
     ensures added { OnOk result (IsUnpacked N.of items.old bytes.now items.new) }
     ensures fault { IfErr result (λ fault. fault ≢ ProfileFault.NoMemory → IsPackedFault bytes.now fault) }

@@ -58,6 +58,7 @@ impl Message for Label {
         }
     }
 
+    #[inline(always)]
     fn take(&mut self, _alloc: Global, field: Field) -> Result<(), ProfileFault> {
         match field.number {
             1 => set_number(&mut self.key, field.value),
@@ -165,6 +166,7 @@ impl Message for Sample {
         }
     }
 
+    #[inline(always)]
     fn take(&mut self, alloc: Global, field: Field) -> Result<(), ProfileFault> {
         match field.number {
             1 => push_numbers(&mut self.location_ids, field.value),

@@ -292,8 +292,3 @@ pub AreStacksSoFar-stands : (draft : Draft) (choice : ValueChoice) (first count 
 AreStacksSoFar-stands draft choice first count sample rows fault is_chosen read so_far there =
     IsBatchSoFar-stands 1 draft choice first 1 count sample (single_batch rows) (total_of rows ∷ []) fault is_chosen
     (omega arith) read so_far (single_totals rows) there
-
-pub AreStacksSoFar-fits : (draft : Draft) (first count : ℕ) (rows : List WeightedStack)
-    → AreStacksSoFar draft first count rows → total_of rows < 2 ^ 63
-AreStacksSoFar-fits draft first count rows so_far =
-    subst (λ (some : List WeightedStack). total_of some < 2 ^ 63) (rows_at-singles rows) (so_far.is.fits 0)

@@ -1,5 +1,7 @@
 -- What samples weigh by the lists of their locations.
-use Rattle.std.specs.Prelude.{ℕ, ◌+◌, ◌<◌, ◌≤◌, All, List, [], ◌∷◌, length, map, slice_index_or, slice_set, sum_by}
+use Rattle.std.specs.Prelude.{ℕ, ◌≡◌, ◌+◌, ◌<◌, ◌≤◌, All, List, [], ◌∷◌, length, map, slice_index_or, slice_set, sum_by}
+use Rattle.pprof_profile.specs.SampleLists.{ListedSamples}
+use Rattle.pprof_profile.specs.Valid.{IsValidDraft}
 use Rattle.pprof_profile.specs.declared.messages.Draft.{Draft}
 use Rattle.profile_rows.specs.declared.weighted_stacks.WeightedStack.{WeightedStack}
 use Rattle.profile_rows.specs.Limits.{most_frames}
@@ -50,6 +52,15 @@ rows_of_sums draft sums = map (row_of_sum draft) sums
 abbrev pub FitStacks : Draft → List LocationSum → Type 0
 FitStacks draft sums =
     All (λ (sum : LocationSum). 0 < sum.weight → length (sample_stack_of draft sum.ids) ≤ most_frames) sums
+
+-- a valid draft, its frames, its samples, their lists without weight, and a value that each sample has
+pub record AreReadyToSum (draft frames : Draft) (samples : ListedSamples) (sums : List LocationSum) (chosen : ℕ)
+    : Type 0 where
+  pub valid : IsValidDraft draft
+  pub framed : frames ≡ draft
+  pub typed : chosen < length draft.sample_types
+  pub own : samples.samples ≡ draft.samples
+  pub none : sums ≡ sums_without_weight samples.lists
 
 -- the lists' rows add up to those of a profile's samples
 pub record AreSampleSums (draft : Draft) (choice : ValueChoice) (sums : List LocationSum) : Type 0 where

@@ -5,13 +5,12 @@ ghost use Rattle.std.specs.Prelude.{length, map};
 ghost use Rattle.profile_rows.specs.declared.weighted_stacks.WeightedStack.{WeightedStack};
 ghost use Rattle.profile_rows.specs.Rows.{total_of};
 ghost use Rattle.profile_rows.specs.TopList.{AreTotalsOf};
-ghost use Rattle.pprof_profile.specs.Valid.{IsValidDraft};
 ghost use Rattle.profile_samples.specs.declared.sampling.ValueChoice.{ValueChoice};
 ghost use Rattle.profile_samples.specs.Samples.{chosen_types_of};
 ghost use Rattle.profile_samples.specs.Batches.{GivesOfStacks, IsStacksWorkFault};
 ghost use Rattle.profile_samples.specs.CountedSamples.{AreNumbersOfIds, AreTotalsOfSamples};
 ghost use Rattle.profile_samples.specs.CountedSamples.{HaveCounted};
-ghost use Rattle.profile_samples.specs.LocationSums.{row_of_sum, rows_of_sums, sums_without_weight};
+ghost use Rattle.profile_samples.specs.LocationSums.{AreReadyToSum, row_of_sum, rows_of_sums};
 
 use crate::location_sums::LocationSums;
 use crate::merged_samples::sum_samples;
@@ -26,6 +25,7 @@ use std::alloc::{AllocError, Global};
 
 /// Puts the numbers of the names of these locations into a list, those of each location once. They are gathered before
 /// they are counted, so that waits for memory overlap where locations stand far apart.
+#[inline(always)]
 fn gather_numbers(
     frames: &NumberedFrames,
     ids: &[u64],
@@ -114,11 +114,7 @@ fn totals_by(
     sums: &mut LocationSums,
     chosen: usize,
 ) -> Result<FrameTotals, BatchFault>
-    requires valid { IsValidDraft draft.now }
-    requires framed { frames.now ≡ draft.now }
-    requires typed { chosen < length draft.now.sample_types }
-    requires own { samples.now.samples ≡ draft.now.samples }
-    requires none { sums.old ≡ sums_without_weight samples.now.lists }
+    requires { AreReadyToSum draft.now frames.now samples.now sums.old chosen }
     ensures { (choice : ValueChoice) → chosen_types_of draft.now choice ≡ Some (chosen, 1)
         → MatchResult result (AreTotalsOfSamples draft.now choice)
         (λ fault. IsStacksWorkFault draft.now choice fault) }

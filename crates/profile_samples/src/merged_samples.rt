@@ -1,13 +1,12 @@
 //! The rows of a profile's samples, those of the same locations merged into one.
 
 ghost use Rattle.std.specs.Prelude.{◌≡◌, ◌<◌, IfOk, MatchResult, OnOk, Some, length};
-ghost use Rattle.pprof_profile.specs.Valid.{IsValidDraft};
 ghost use Rattle.profile_samples.specs.declared.sampling.ValueChoice.{ValueChoice};
 ghost use Rattle.profile_rows.specs.Aggregate.{aggregate_of};
 ghost use Rattle.profile_rows.specs.Merging.{AreMergedSoFar};
 ghost use Rattle.profile_samples.specs.Samples.{chosen_types_of};
 ghost use Rattle.profile_samples.specs.Batches.{GivesOfStacks, IsStacksWorkFault, StandsAtSample};
-ghost use Rattle.profile_samples.specs.LocationSums.{AreSampleSums, FitStacks, rows_of_sums, sums_without_weight};
+ghost use Rattle.profile_samples.specs.LocationSums.{AreReadyToSum, AreSampleSums, FitStacks, rows_of_sums};
 ghost use Rattle.profile_samples.specs.MergedSamples.{IsMergedBatch};
 
 use crate::location_sums::LocationSums;
@@ -26,11 +25,7 @@ pub(crate) fn sum_samples(
     sums: &mut LocationSums,
     chosen: usize,
 ) -> Result<(), BatchFault>
-    requires valid { IsValidDraft draft.now }
-    requires framed { frames.now ≡ draft.now }
-    requires typed { chosen < length draft.now.sample_types }
-    requires own { samples.now.samples ≡ draft.now.samples }
-    requires none { sums.old ≡ sums_without_weight samples.now.lists }
+    requires { AreReadyToSum draft.now frames.now samples.now sums.old chosen }
     ensures sums { (choice : ValueChoice) → chosen_types_of draft.now choice ≡ Some (chosen, 1)
         → MatchResult result (λ done. AreSampleSums draft.now choice sums.new)
         (λ fault. StandsAtSample 1 draft.now choice fault) }
@@ -74,11 +69,7 @@ fn merged_by(
     sums: &mut LocationSums,
     chosen: usize,
 ) -> Result<WeightedStacks, BatchFault>
-    requires valid { IsValidDraft draft.now }
-    requires framed { frames.now ≡ draft.now }
-    requires typed { chosen < length draft.now.sample_types }
-    requires own { samples.now.samples ≡ draft.now.samples }
-    requires none { sums.old ≡ sums_without_weight samples.now.lists }
+    requires { AreReadyToSum draft.now frames.now samples.now sums.old chosen }
     ensures { (choice : ValueChoice) → chosen_types_of draft.now choice ≡ Some (chosen, 1)
         → MatchResult result (λ merged. IsMergedBatch draft.now choice merged)
         (λ fault. IsStacksWorkFault draft.now choice fault) }

@@ -1,6 +1,6 @@
 -- What stands at a sample is the first fault.
 use Rattle.std.proofs.lemmas.Grind.{common_steps}
-use Rattle.std.proofs.Common.{arith}
+use Rattle.std.proofs.Common.{arith, sym, ◌∙◌}
 use Rattle.profile_samples.proofs.MergedSamples.{gives_totals}
 use Rattle.profile_samples.proofs.SampleBatches.{first_of_work, memory_first}
 use Rattle.profile_samples.proofs.SampleRows.{chosen_types_within}
@@ -27,14 +27,17 @@ returns-in_err-sums c =
     c.in_ok-chosen.chosen 1 c.from_residual-in_err-sums.result (rw c.draft-draft.ensures.draft at c.in_ok-chosen.ensures)
     (omega arith) (grind (arith, common_steps, err_from_is_err_and)))
 
-pub totals_by-requires-clause-valid : goal.totals_by-requires-clause-valid
-totals_by-requires-clause-valid c = rw c.draft-draft.ensures.draft c.draft-draft.ensures.valid
-
-pub totals_by-requires-clause-typed : goal.totals_by-requires-clause-typed
-totals_by-requires-clause-typed c =
+pub totals_by-requires : goal.totals_by-requires
+totals_by-requires c =
     let within = chosen_types_within c.draft-draft.result.now c.args.choice c.in_ok-chosen.chosen 1
     c.in_ok-chosen.ensures in
-    omega (arith, within)
+    record {
+      valid = rw c.draft-draft.ensures.draft c.draft-draft.ensures.valid;
+      framed = c.in_ok-frames.ensures ∙ sym c.draft-draft.ensures.draft;
+      typed = omega (arith, within);
+      own = c.by_list-samples.ensures;
+      none = c.in_ok-sums.ensures;
+    }
 
 pub returns : goal.returns
 returns c =

@@ -139,7 +139,8 @@ impl LocationLists {
     /// The number of a list that is spelled so, where it is found.
     pub fn find(&self, spelling: &[u8]) -> Option<u32>
         ensures { IfSome result
-            (λ number. (number < length self.now) × IsSpelling spelling.now (list_at self.now number)) }
+            (λ number. (0 < length spelling.now) × (number < length self.now)
+            × IsSpelling spelling.now (list_at self.now number)) }
     {
         if spelling.is_empty() {
             return None;

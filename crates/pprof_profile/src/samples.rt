@@ -155,11 +155,27 @@ impl<'a> SamplesByList<'a> {
     }
 }
 
+/// How many lists there are before it is looked at whether looking for them saves work.
+const FIRST_LISTS: usize = 4096;
+
+/// The bytes of a list, as long as looking for lists saves work: for each four lists one was found. Else none.
+fn sought(packed: &[u8], lists: usize, found: u64) -> &[u8]
+    ensures { 0 < length result.now → result.now ≡ packed.now }
+{
+    if lists < FIRST_LISTS || found >= lists as u64 / 4 {
+        packed
+    } else {
+        &[]
+    }
+}
+
 /// Samples in order: the parts of all stand together. A contract sees the samples and the lists of location ids.
 #[derive(Drop)]
 pub(crate) struct SampleLists {
     spans: Vec<SampleSpans>,
     locations: LocationLists,
+    /// How many times a list was found by its bytes.
+    found: u64,
     values: Vec<i64>,
     labels: Vec<Label>,
 }
@@ -187,6 +203,7 @@ impl SampleLists {
         SampleLists {
             spans: Vec::new(alloc),
             locations: LocationLists::empty(alloc),
+            found: 0,
             values: Vec::new(alloc),
             labels: Vec::new(alloc),
         }
@@ -223,11 +240,13 @@ impl SampleLists {
             (λ fault. fault ≢ ProfileFault.NoMemory → IsPackedFault packed.now fault) }
         ensures kept { self.new.samples ≡ self.old.samples }
     {
-        if let Some(number) = self.locations.find(packed) {
+        let spelling = sought(packed, self.locations.len(), self.found);
+        if let Some(number) = self.locations.find(spelling) {
+            self.found = self.found.saturating_add(1);
             return Ok(number);
         }
         push_packed(ids, packed)?;
-        let number = self.locations.push(ids.as_slice(), packed)?;
+        let number = self.locations.push(ids.as_slice(), spelling)?;
         ids.clear();
         Ok(number)
     }

@@ -39,7 +39,8 @@ module _ (ids : List ℕ) where
 
   where_before : {R : Type 0} (Others : R → Result R ProfileFault → Type 0) (first : Bool) (old new : List ℕ)
       (rest others : R) (value : FieldValue)
-      → Where first (AtFirst (AddsNumbers unsigned_of) (old, rest) value) (InOthers Others (old, rest)) (Ok (new, others))
+      → Where first (AtFirst (AddsNumbers unsigned_of) (old, rest) value) (InOthers Others (old, rest))
+      (Ok (new, others))
       → Where first (AtFirst (AddsNumbers unsigned_of) (ids ++ old, rest) value) (InOthers Others (ids ++ old, rest))
       (Ok (ids ++ new, others))
   where_before Others true old new rest others value (adds, same) = (adds_before old new value adds, same)

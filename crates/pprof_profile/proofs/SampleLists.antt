@@ -10,8 +10,8 @@ use Rattle.pprof_profile.specs.SampleLists.{AreWithin, sample_at}
 use Rattle.pprof_profile.proofs.LocationLists.{list_grown}
 
 -- the parts of samples stand where they stood
-pub all_within_grown : (lists more_lists : List (List ℕ)) (values more_values : List ℤ) (labels more_labels : List Label)
-    → Grows lists more_lists → Grows values more_values → Grows labels more_labels
+pub all_within_grown : (lists more_lists : List (List ℕ)) (values more_values : List ℤ)
+    (labels more_labels : List Label) → Grows lists more_lists → Grows values more_values → Grows labels more_labels
     → (spans : List SampleSpans) → All (AreWithin lists values labels) spans
     → All (AreWithin more_lists more_values more_labels) spans
 all_within_grown lists more_lists values more_values labels more_labels i v l =

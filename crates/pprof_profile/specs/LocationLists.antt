@@ -23,7 +23,8 @@ IsSpelling bytes ids = IsUnpacked unsigned_of [] bytes ids
 pub record IsSpelledList (ids bytes : List ℕ) (spans : ListSpans) : Type 0 where
   pub ids_are : IsWithin ids spans.ids
   pub bytes_are : IsWithin bytes spans.spelling
-  pub spelled : 0 < length (items_at bytes spans.spelling) → IsSpelling (items_at bytes spans.spelling) (ids_of ids spans)
+  pub spelled : 0 < length (items_at bytes spans.spelling)
+      → IsSpelling (items_at bytes spans.spelling) (ids_of ids spans)
 
 -- there is a list of this number, where there is a number
 abbrev pub IsListed : Option ℕ → List (List ℕ) → Type 0

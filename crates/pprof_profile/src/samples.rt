@@ -278,8 +278,8 @@ impl SampleLists {
         }
     }
 
-    /// Takes the first field of a sample that is read, of which nothing was taken before. Where it has packed ids, these
-    /// stay out of the sample, and it gives the number of their list.
+    /// Takes the first field of a sample that is read. Where it has packed ids, these stay out of the sample, and it
+    /// gives the number of their list.
     fn take_first(
         &mut self,
         alloc: Global,

@@ -57,7 +57,8 @@ weights_set [] weights at weight same = refl
 weights_set (ids ∷ lists) [] at weight same = grind (arith, common_steps)
 weights_set (ids ∷ lists) (first ∷ weights) zero weight same = refl
 weights_set (ids ∷ lists) (first ∷ weights) (suc at) weight same =
-    ap (λ sums. (record { ids = ids; weight = first }) ∷ sums) (weights_set lists weights at weight (omega (arith, same)))
+    ap (λ sums. (record { ids = ids; weight = first }) ∷ sums)
+    (weights_set lists weights at weight (omega (arith, same)))
 
 weight_there : (lists : List (List ℕ)) (weights : List ℕ) (at before : ℕ) → length weights ≡ length lists
     → at < length lists → before ≡ get_or weights at before

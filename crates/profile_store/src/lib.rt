@@ -92,6 +92,7 @@ pub use pprof_profile::Sample;
 pub use pprof_profile::SampleIter;
 pub use pprof_profile::SampleRef;
 pub use pprof_profile::Samples;
+pub use pprof_profile::SamplesByList;
 pub use pprof_profile::Text;
 pub use pprof_profile::ValueType;
 pub use pprof_profile::WireFault;

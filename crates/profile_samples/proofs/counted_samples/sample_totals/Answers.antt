@@ -17,14 +17,16 @@ pub returns-in_err-frames : goal.returns-in_err-frames
 returns-in_err-frames c =
     gives_totals c.args.profile.now c.args.choice c.from_residual-in_err-frames.result
     (memory_first (AreTotalsOfSamples c.args.profile.now c.args.choice) 1 c.args.profile.now c.args.choice
-    c.in_ok-chosen.chosen 1 c.from_residual-in_err-frames.result (rw c.draft-draft.ensures.draft at c.in_ok-chosen.ensures)
+    c.in_ok-chosen.chosen 1 c.from_residual-in_err-frames.result
+    (rw c.draft-draft.ensures.draft at c.in_ok-chosen.ensures)
     (omega arith) (grind (arith, common_steps, err_from_is_err_and)))
 
 pub returns-in_err-sums : goal.returns-in_err-sums
 returns-in_err-sums c =
     gives_totals c.args.profile.now c.args.choice c.from_residual-in_err-sums.result
     (memory_first (AreTotalsOfSamples c.args.profile.now c.args.choice) 1 c.args.profile.now c.args.choice
-    c.in_ok-chosen.chosen 1 c.from_residual-in_err-sums.result (rw c.draft-draft.ensures.draft at c.in_ok-chosen.ensures)
+    c.in_ok-chosen.chosen 1 c.from_residual-in_err-sums.result
+    (rw c.draft-draft.ensures.draft at c.in_ok-chosen.ensures)
     (omega arith) (grind (arith, common_steps, err_from_is_err_and)))
 
 pub totals_by-requires : goal.totals_by-requires
@@ -42,5 +44,5 @@ totals_by-requires c =
 pub returns : goal.returns
 returns c =
     gives_totals c.args.profile.now c.args.choice c.totals_by.result
-    (first_of_work (AreTotalsOfSamples c.args.profile.now c.args.choice) c.args.profile.now c.args.choice c.totals_by.result
-    (rw c.draft-draft.ensures.draft at (c.totals_by.ensures c.args.choice c.in_ok-chosen.ensures)))
+    (first_of_work (AreTotalsOfSamples c.args.profile.now c.args.choice) c.args.profile.now c.args.choice
+    c.totals_by.result (rw c.draft-draft.ensures.draft at (c.totals_by.ensures c.args.choice c.in_ok-chosen.ensures)))

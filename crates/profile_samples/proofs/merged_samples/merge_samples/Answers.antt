@@ -17,14 +17,16 @@ pub returns-in_err-frames : goal.returns-in_err-frames
 returns-in_err-frames c =
     gives_merged c.args.profile.now c.args.choice c.from_residual-in_err-frames.result
     (memory_first (IsMergedBatch c.args.profile.now c.args.choice) 1 c.args.profile.now c.args.choice
-    c.in_ok-chosen.chosen 1 c.from_residual-in_err-frames.result (rw c.draft-draft.ensures.draft at c.in_ok-chosen.ensures)
+    c.in_ok-chosen.chosen 1 c.from_residual-in_err-frames.result
+    (rw c.draft-draft.ensures.draft at c.in_ok-chosen.ensures)
     (omega arith) (grind (arith, common_steps, err_from_is_err_and)))
 
 pub returns-in_err-sums : goal.returns-in_err-sums
 returns-in_err-sums c =
     gives_merged c.args.profile.now c.args.choice c.from_residual-in_err-sums.result
     (memory_first (IsMergedBatch c.args.profile.now c.args.choice) 1 c.args.profile.now c.args.choice
-    c.in_ok-chosen.chosen 1 c.from_residual-in_err-sums.result (rw c.draft-draft.ensures.draft at c.in_ok-chosen.ensures)
+    c.in_ok-chosen.chosen 1 c.from_residual-in_err-sums.result
+    (rw c.draft-draft.ensures.draft at c.in_ok-chosen.ensures)
     (omega arith) (grind (arith, common_steps, err_from_is_err_and)))
 
 pub merged_by-requires : goal.merged_by-requires

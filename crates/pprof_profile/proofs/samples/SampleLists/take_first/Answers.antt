@@ -25,7 +25,8 @@ returns-in-Some-Ok-clause-taken c =
     (λ begun taken. (
       taken.0,
       read_more (table_of sample_form) no_sample c.args.sample.now
-          (with_ids_before (begun_ids c.take_field.new.self.lists begun) c.take_field.new.sample) bytes bytes next.spelling
+          (with_ids_before (begun_ids c.take_field.new.self.lists begun) c.take_field.new.sample) bytes bytes
+          next.spelling
           c.next_field.new.self.bytes (field_of c.in-Some-Ok.field) nothing next.after.parts next.spelled taken.1,
     ))
     (λ fault is known. record {

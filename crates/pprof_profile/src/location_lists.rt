@@ -51,25 +51,29 @@ impl Guesses {
         number.copied().unwrap_or(VACANT)
     }
 
-    /// Puts the number of a list at a place of its hash: the first that is vacant, or else the first.
-    fn put(&mut self, hash: u64, number: u32) {
-        let before = (0..PLACES).find(|before| self.at(hash, *before) == VACANT);
-        let place = self.place_of(hash, before.unwrap_or(0));
+    /// Puts the number of a list that has a spelling at a place of its hash: the first that is vacant, or else the
+    /// first.
+    fn put(&mut self, list: &ListSpans, number: u32) {
+        if list.spelling.start == list.spelling.end {
+            return;
+        }
+        let before = (0..PLACES).find(|before| self.at(list.hash, *before) == VACANT);
+        let place = self.place_of(list.hash, before.unwrap_or(0));
         if let Some(vacant) = self.numbers.get_mut(place) {
             *vacant = number;
         }
     }
 
-    /// Makes room for one list more than these.
-    fn reach(&mut self, lists: &[ListSpans]) -> Result<(), AllocError> {
-        if lists.len() < self.numbers.len() / 2 {
+    /// Makes room for one list more than these, where it has a spelling.
+    fn reach(&mut self, lists: &[ListSpans], spelling: &[u8]) -> Result<(), AllocError> {
+        if spelling.is_empty() || lists.len() < self.numbers.len() / 2 {
             return Ok(());
         }
         let count = self.numbers.len().saturating_mul(2).max(64);
         self.numbers.clear();
         self.numbers.resize(count, VACANT)?;
         for (number, list) in lists.iter().enumerate() {
-            self.put(list.hash, u32::try_from(number).unwrap_or(VACANT));
+            self.put(list, u32::try_from(number).unwrap_or(VACANT));
         }
         Ok(())
     }
@@ -165,16 +169,17 @@ impl LocationLists {
             (λ fault. self.new ≡ self.old) }
     {
         let number = u32::try_from(self.lists.len()).map_err(|_| AllocError)?;
-        self.guesses.reach(self.lists.as_slice())?;
+        self.guesses.reach(self.lists.as_slice(), spelling)?;
         let hash = hash_of(spelling);
         let ids = append(&mut self.ids, ids)?;
         let bytes = append(&mut self.bytes, spelling)?;
-        self.lists.push(ListSpans {
+        let list = ListSpans {
             ids,
             spelling: bytes,
             hash,
-        })?;
-        self.guesses.put(hash, number);
+        };
+        self.lists.push(list)?;
+        self.guesses.put(&list, number);
         Ok(number)
     }
 

@@ -46,17 +46,6 @@ pub(crate) fn take_fields<M: Message>(
     Ok(())
 }
 
-/// Takes each field of the bytes, in order, and stops at the first fault.
-pub(crate) fn read_onto<M: Message>(
-    alloc: Global,
-    message: &mut M,
-    bytes: &[u8],
-) -> Result<(), ProfileFault>
-    ensures { KeepsRule (Reads (table_of M.form) message.old bytes.now) message.new result }
-{
-    take_fields(alloc, message, &mut Fields::new(bytes))
-}
-
 /// The message that the bytes spell.
 pub(crate) fn read_message<M: Message>(alloc: Global, bytes: &[u8]) -> Result<M, ProfileFault>
     ensures read { IfOk result (λ message. Spells (table_of M.form) (empty_of M.form) bytes.now message) }
@@ -64,7 +53,7 @@ pub(crate) fn read_message<M: Message>(alloc: Global, bytes: &[u8]) -> Result<M,
         → IsFirstFieldFault (table_of M.form) (empty_of M.form) bytes.now fault) }
 {
     let mut message = M::empty(alloc);
-    read_onto(alloc, &mut message, bytes)?;
+    take_fields(alloc, &mut message, &mut Fields::new(bytes))?;
     Ok(message)
 }
 
@@ -168,5 +157,5 @@ pub(crate) fn merge_message<M: Message>(
     let Value::Bytes(bytes) = value else {
         return Err(ProfileFault::Wire(WireFault::WireType));
     };
-    read_onto(alloc, message, bytes)
+    take_fields(alloc, message, &mut Fields::new(bytes))
 }

@@ -1,9 +1,8 @@
 -- What stands at a sample is the first fault.
 use Rattle.std.proofs.lemmas.Grind.{common_steps}
-use Rattle.std.proofs.Common.{arith, sym, ◌∙◌}
-use Rattle.profile_samples.proofs.MergedSamples.{gives_totals}
+use Rattle.std.proofs.Common.{arith}
+use Rattle.profile_samples.proofs.MergedSamples.{gives_totals, ready_to_sum}
 use Rattle.profile_samples.proofs.SampleBatches.{first_of_work, memory_first}
-use Rattle.profile_samples.proofs.SampleRows.{chosen_types_within}
 use Rattle.std.proofs.lemmas.Result.{err_from_is_err_and}
 use Rattle.profile_samples.specs.CountedSamples.{AreTotalsOfSamples}
 use Rattle.profile_samples.proofs.counted_samples.sample_totals.Goals as goal
@@ -31,15 +30,10 @@ returns-in_err-sums c =
 
 pub totals_by-requires : goal.totals_by-requires
 totals_by-requires c =
-    let within = chosen_types_within c.draft-draft.result.now c.args.choice c.in_ok-chosen.chosen 1
-    c.in_ok-chosen.ensures in
-    record {
-      valid = rw c.draft-draft.ensures.draft c.draft-draft.ensures.valid;
-      framed = c.in_ok-frames.ensures ∙ sym c.draft-draft.ensures.draft;
-      typed = omega (arith, within);
-      own = c.by_list-samples.ensures;
-      none = c.in_ok-sums.ensures;
-    }
+    ready_to_sum c.args.profile.now c.draft-draft.result.now c.in_ok-frames.frames.now c.args.choice
+    c.in_ok-chosen.chosen c.by_list-samples.result.now c.in_ok-sums.sums.now c.draft-draft.ensures.draft
+    c.draft-draft.ensures.valid c.in_ok-frames.ensures c.in_ok-chosen.ensures c.by_list-samples.ensures
+    c.in_ok-sums.ensures
 
 pub returns : goal.returns
 returns c =

@@ -1,6 +1,6 @@
 //! A call tree that grows: a plan makes room for a batch, a credit adds it.
 
-ghost use Rattle.std.specs.Prelude.{◌≡◌, ◌<◌, ◌+◌, ◌^◌, ℕ, length, IfOk, OnOk, OnErr};
+ghost use Rattle.std.specs.Prelude.{◌≡◌, ◌<◌, ◌+◌, ◌^◌, ℕ, length, IfOk, MatchResult};
 ghost use Rattle.std.specs.Arc.{arc_value};
 ghost use Rattle.profile_rows.specs.Rows.{total_of};
 ghost use Rattle.profile_rows.specs.Values.{rows_at};
@@ -153,8 +153,8 @@ impl Grower {
     /// `NoMemory`: each stack keeps its weights then.
     pub fn add(&mut self, alloc: Global, batch: &Batch) -> Result<(), NoMemory>
         requires { HasRoomFor self.old batch.now }
-        ensures added { OnOk result (HasAdded self.old self.new batch.now) }
-        ensures same { OnErr result (HasSameWeights self.old self.new) }
+        ensures { MatchResult result (λ _. HasAdded self.old self.new batch.now)
+            (λ _. HasSameWeights self.old self.new) }
     {
         if batch.len() == 1 && self.tree.width().get() == 1 {
             return self.add_row(alloc, batch);
@@ -216,8 +216,8 @@ impl Grower {
         requires single { self.old.width ≡ 1 }
         requires one { length batch.now.rows ≡ 1 }
         requires room { HasRoomFor self.old batch.now }
-        ensures added { OnOk result (HasAdded self.old self.new batch.now) }
-        ensures same { OnErr result (HasSameWeights self.old self.new) }
+        ensures { MatchResult result (λ _. HasAdded self.old self.new batch.now)
+            (λ _. HasSameWeights self.old self.new) }
     {
         let mut walk = mem::replace(&mut self.walk, Walk::new(alloc));
         let node = self.grow(&batch.first().rows()[0].stack, &mut walk);

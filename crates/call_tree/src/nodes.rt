@@ -1,6 +1,6 @@
 //! The home of the nodes with their weights of all values.
 
-ghost use Rattle.std.specs.Prelude.{◌≡◌, ◌<◌, ℕ, [], length, IfOk, OnOk, OnErr, slice_index_or};
+ghost use Rattle.std.specs.Prelude.{◌≡◌, ◌<◌, ℕ, [], length, IfOk, MatchResult, OnOk, slice_index_or};
 ghost use Rattle.call_tree.specs.Nodes.{AreAlike, AreSameTables, AreTables, HasNodeMore, IsReweighed, linked, nodes_of};
 ghost use Rattle.call_tree.specs.Nodes.{without_weight};
 ghost use Rattle.call_tree.specs.Shape.{at};
@@ -109,8 +109,8 @@ impl Nodes {
     pub fn put_weight(&mut self, value: u32, slot: usize, weight: u64) -> Result<(), AllocError>
         requires value { value < length self.old }
         requires within { slot < length (nodes_of self.old value) }
-        ensures ok { OnOk result (IsReweighed self.old value slot weight self.new) }
-        ensures err { OnErr result (self.new ≡ self.old) }
+        ensures { MatchResult result (λ _. IsReweighed self.old value slot weight self.new)
+            (λ _. self.new ≡ self.old) }
     {
         let table = &mut self.weights[value as usize];
         table.replace(slot, weight)?;
@@ -130,8 +130,7 @@ impl Nodes {
 
     /// One more node of weight 0, at the end.
     pub fn append(&mut self, link: Link) -> Result<(), AllocError>
-        ensures ok { OnOk result (HasNodeMore self.old link self.new) }
-        ensures err { OnErr result (self.new ≡ self.old) }
+        ensures { MatchResult result (λ _. HasNodeMore self.old link self.new) (λ _. self.new ≡ self.old) }
     {
         take_room(&mut self.weights, self.links.len())?;
         self.links.append(link)

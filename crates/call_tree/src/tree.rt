@@ -1,6 +1,7 @@
 //! The call tree: nodes with links to their parents, each with the weight of its stack alone.
 
-ghost use Rattle.std.specs.Prelude.{◌≡◌, ◌<◌, ◌+◌, ◌++◌, ◌∷◌, ◌^◌, ℕ, [], length, IfOk, IfSome, OnOk, OnErr};
+ghost use Rattle.std.specs.Prelude.{◌≡◌, ◌<◌, ◌+◌, ◌++◌, ◌∷◌, ◌^◌, ℕ, [], length, IfOk, IfSome};
+ghost use Rattle.std.specs.Prelude.{MatchResult, OnOk};
 ghost use Rattle.profile_rows.specs.Rows.{total_of};
 ghost use Rattle.profile_rows.specs.Values.{value_of, rows_at};
 ghost use Rattle.profile_rows.specs.Merging.{with_added_at};
@@ -126,8 +127,8 @@ impl CallTree {
         requires one { length batch.now.rows ≡ 1 }
         requires slot { AreSlots (plain_at self.old 0) batch.now.rows (slot ∷ []) }
         requires fits { total_of (nodes_at self.old 0) + total_of (rows_at 0 batch.now.rows) < 2 ^ 63 }
-        ensures ok { OnOk result (AreCredited self.old self.new batch.now.rows 1) }
-        ensures err { OnErr result (self.new ≡ self.old) }
+        ensures { MatchResult result (λ _. AreCredited self.old self.new batch.now.rows 1)
+            (λ _. self.new ≡ self.old) }
     {
         let weight = batch.weight(0, 0);
         add_weight(&self.names, &mut self.nodes, 0, slot, weight)?;
@@ -138,9 +139,9 @@ impl CallTree {
     /// One more name, with the next number.
     pub(crate) fn append_name(&mut self, name: Name) -> Result<(), AllocError>
         requires { (k : ℕ) → k < length self.old.names → name_at self.old.names k ≡ name → ⊥ }
-        ensures ok { OnOk result ((self.new.width ≡ self.old.width)
-            × (self.new.names ≡ self.old.names ++ name ∷ []) × (self.new.values ≡ self.old.values)) }
-        ensures err { OnErr result (self.new ≡ self.old) }
+        ensures { MatchResult result (λ _. (self.new.width ≡ self.old.width)
+            × (self.new.names ≡ self.old.names ++ name ∷ []) × (self.new.values ≡ self.old.values))
+            (λ _. self.new ≡ self.old) }
     {
         self.names.append(name)?;
         Ok(())
@@ -154,8 +155,7 @@ impl CallTree {
         counts: bool,
     ) -> Result<(), AllocError>
         requires { IsFresh (plain_at self.old 0) parent name counts }
-        ensures ok { OnOk result (IsAppended self.old parent name self.new) }
-        ensures err { OnErr result (self.new ≡ self.old) }
+        ensures { MatchResult result (λ _. IsAppended self.old parent name self.new) (λ _. self.new ≡ self.old) }
     {
         self.nodes.facts();
         self.nodes.append(Link {
@@ -256,10 +256,10 @@ fn add_weight(
     requires value { value < length nodes.old }
     requires within { at < length (nodes_of nodes.old value) }
     requires fits { total_of (node_rows names.now (nodes_of nodes.old value)) + weight < 2 ^ 63 }
-    ensures trees { OnOk result (AreTreesBut names.now value nodes.old nodes.new) }
-    ensures nodes { OnOk result (node_rows names.now (nodes_of nodes.new value)
-        ≡ with_added_at (node_rows names.now (nodes_of nodes.old value)) at weight) }
-    ensures err { OnErr result (nodes.new ≡ nodes.old) }
+    ensures { MatchResult result (λ _. AreTreesBut names.now value nodes.old nodes.new
+        × (node_rows names.now (nodes_of nodes.new value)
+        ≡ with_added_at (node_rows names.now (nodes_of nodes.old value)) at weight))
+        (λ _. nodes.new ≡ nodes.old) }
 {
     // Only the clauses speak of the names.
     let _names = names;

@@ -1,6 +1,6 @@
 -- Bytes are one profile, or no profile for one reason.
-use Rattle.std.proofs.Common.{◌≡◌, ◌≢◌, ℕ, ◌⊎◌, inl, inr, List, refl, sym, ap, ◌∙◌, Result, Ok, Err, Some, None, IfOk}
-use Rattle.std.proofs.Common.{IfErr}
+use Rattle.std.proofs.Common.{◌≡◌, ◌≢◌, ℕ, ◌⊎◌, inl, inr, List, refl, sym, ap, ◌∙◌, Result, Ok, Err, Some, None}
+use Rattle.std.specs.Prelude.{MatchResult}
 use Rattle.pprof_profile.specs.declared.faults.ProfileFault.{ProfileFault}
 use Rattle.pprof_profile.specs.declared.faults.ProfileFault.TheVariants.{NoMemory}
 use Rattle.pprof_profile.specs.declared.messages.Draft.{Draft}
@@ -53,16 +53,17 @@ memory_or_not : (fault : ProfileFault) → (fault ≡ NoMemory) ⊎ (fault ≢ N
 memory_or_not NoMemory = inl refl
 memory_or_not fault = inr (λ same. absurd cc)
 
-pub decoded : (bytes : List ℕ) (result : Result Draft ProfileFault) → IfOk result (λ draft. IsProfile bytes draft)
-    → IfErr result (λ fault. fault ≢ NoMemory → IsProfileFault bytes fault) → IsDecoded bytes result
-decoded bytes (Ok read) is wrong = record {
+pub decoded : (bytes : List ℕ) (result : Result Draft ProfileFault)
+    → MatchResult result (IsProfile bytes) (λ fault. fault ≢ NoMemory → IsProfileFault bytes fault)
+    → IsDecoded bytes result
+decoded bytes (Ok read) is = record {
   read = is;
-  fault = wrong;
+  fault = tt;
   every_profile = λ draft profile. draft_spelled_once bytes read draft is.spelled profile.spelled;
   every_fault = λ first faulty. profile_no_fault bytes read first is faulty;
 }
-decoded bytes (Err fault) is wrong = record {
-  read = is;
+decoded bytes (Err fault) wrong = record {
+  read = tt;
   fault = wrong;
   every_profile = λ draft profile. elim (memory_or_not fault) [
     | inl memory ↦ memory

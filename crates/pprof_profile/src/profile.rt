@@ -1,6 +1,6 @@
 //! Profiles: drafts that are valid, read from bytes and written.
 
-ghost use Rattle.std.specs.Prelude.{◌≡◌, ◌≢◌, Some, IfOk, IfErr, OnOk};
+ghost use Rattle.std.specs.Prelude.{◌≡◌, ◌≢◌, Some, IfOk, IfErr, MatchResult, OnOk};
 ghost use Rattle.std.specs.Bool.{OnTrue, OnFalse};
 ghost use Rattle.pprof_profile.specs.declared.faults.ProfileFault.{ProfileFault};
 ghost use Rattle.pprof_profile.specs.Valid.{IsValidDraft, KeepsFirstRules, validity_fault};
@@ -100,8 +100,8 @@ pub fn encode(alloc: Global, profile: &Profile) -> Result<Vec<u8>, NoMemory>
 
 /// What [`decode`] answers.
 fn read_profile(alloc: Global, bytes: &[u8]) -> Result<Profile, ProfileFault>
-    ensures read { IfOk result (λ profile. IsProfile bytes.now profile) }
-    ensures fault { IfErr result (λ fault. fault ≢ ProfileFault.NoMemory → IsProfileFault bytes.now fault) }
+    ensures { MatchResult result (IsProfile bytes.now)
+        (λ fault. fault ≢ ProfileFault.NoMemory → IsProfileFault bytes.now fault) }
 {
     if begins_as_gzip(bytes) {
         return Err(ProfileFault::Gzip);

@@ -1,6 +1,6 @@
 //! A message out of its bytes: what the value of a field does to the part that it belongs to.
 
-ghost use Rattle.std.specs.Prelude.{◌≡◌, ◌≢◌, Result, Ok, Err, IfOk, IfErr, OnOk};
+ghost use Rattle.std.specs.Prelude.{◌≡◌, ◌≢◌, Result, Ok, Err, MatchResult};
 ghost use Rattle.pprof_wire.specs.Fields.{value_of};
 ghost use Rattle.pprof_profile.specs.declared.faults.ProfileFault.{ProfileFault};
 ghost use Rattle.pprof_profile.specs.Forms.{Form, empty_of, table_of};
@@ -48,8 +48,8 @@ pub(crate) fn take_fields<M: Message>(
 
 /// The message that the bytes spell.
 pub(crate) fn read_message<M: Message>(alloc: Global, bytes: &[u8]) -> Result<M, ProfileFault>
-    ensures read { IfOk result (λ message. Spells (table_of M.form) (empty_of M.form) bytes.now message) }
-    ensures fault { IfErr result (λ fault. fault ≢ ProfileFault.NoMemory
+    ensures { MatchResult result (Spells (table_of M.form) (empty_of M.form) bytes.now)
+        (λ fault. fault ≢ ProfileFault.NoMemory
         → IsFirstFieldFault (table_of M.form) (empty_of M.form) bytes.now fault) }
 {
     let mut message = M::empty(alloc);
@@ -59,8 +59,8 @@ pub(crate) fn read_message<M: Message>(alloc: Global, bytes: &[u8]) -> Result<M,
 
 /// Puts the number of a field in its place: the last one counts.
 pub(crate) fn set_number<N: Number>(place: &mut N, value: Value) -> Result<(), ProfileFault>
-    ensures set { OnOk result (SetsNumber N.of place.old (value_of value.entry) (Ok place.new)) }
-    ensures fault { IfErr result (λ fault. SetsNumber N.of place.old (value_of value.entry) (Err fault)) }
+    ensures { MatchResult result (λ _. SetsNumber N.of place.old (value_of value.entry) (Ok place.new))
+        (λ fault. SetsNumber N.of place.old (value_of value.entry) (Err fault)) }
 {
     match value {
         Value::Varint(number) => {
@@ -100,8 +100,8 @@ fn count_ends(bytes: &[u8]) -> usize {
 /// Adds the packed numbers, with memory for all of them taken at once.
 #[inline(always)]
 pub(crate) fn push_packed<N: Number>(items: &mut Items<N>, bytes: &[u8]) -> Result<(), ProfileFault>
-    ensures added { OnOk result (IsUnpacked N.of items.old bytes.now items.new) }
-    ensures fault { IfErr result (λ fault. fault ≢ ProfileFault.NoMemory → IsPackedFault bytes.now fault) }
+    ensures { MatchResult result (λ _. IsUnpacked N.of items.old bytes.now items.new)
+        (λ fault. fault ≢ ProfileFault.NoMemory → IsPackedFault bytes.now fault) }
 {
     items.reserve(count_ends(bytes))?;
     let mut numbers = packed(bytes);

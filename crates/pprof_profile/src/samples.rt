@@ -1,13 +1,14 @@
 //! The samples of a profile, whose parts stand together: a profile has many.
 
-ghost use Rattle.std.specs.Prelude.{◌≡◌, ◌≢◌, ◌<◌, ◌^◌, ◌++◌, ◌∷◌, [], Err, List, Ok, Some, length, slice_get, IfErr};
-ghost use Rattle.std.specs.Prelude.{MatchResult, OnErr, OnOk};
+ghost use Rattle.std.specs.Prelude.{◌≡◌, ◌≢◌, ◌<◌, ◌^◌, ◌++◌, ◌∷◌, [], Err, List, Ok, Some, length, slice_get};
+ghost use Rattle.std.specs.Prelude.{MatchResult};
 ghost use Rattle.pprof_wire.specs.Fields.{value_of};
 ghost use Rattle.pprof_profile.specs.declared.faults.ProfileFault.{ProfileFault};
 ghost use Rattle.pprof_profile.specs.Forms.{table_of};
 ghost use Rattle.pprof_profile.specs.LocationLists.{IsListed, IsSpelling, begun_ids, list_at};
 ghost use Rattle.pprof_profile.specs.Messages.{no_sample, sample_form};
 ghost use Rattle.pprof_profile.specs.Reading.{AddsMessage, IsAppended, IsFirstFieldFault, IsPackedFault, IsReadSoFar};
+ghost use Rattle.pprof_profile.specs.Reading.{KeepsRule};
 ghost use Rattle.pprof_profile.specs.SampleLists.{with_ids_before};
 ghost use Rattle.pprof_profile.specs.declared.messages.Sample.{Sample};
 
@@ -213,9 +214,9 @@ impl SampleLists {
     /// the samples are as they were.
     pub(crate) fn push(&mut self, begun: Option<u32>, sample: &Sample) -> Result<(), AllocError>
         requires { IsListed begun self.old.lists }
-        ensures pushed { OnOk result (self.new.samples
-            ≡ self.old.samples ++ with_ids_before (begun_ids self.old.lists begun) sample.now ∷ []) }
-        ensures unchanged { OnErr result (self.new.samples ≡ self.old.samples) }
+        ensures { MatchResult result (λ _. self.new.samples
+            ≡ self.old.samples ++ with_ids_before (begun_ids self.old.lists begun) sample.now ∷ [])
+            (λ _. self.new.samples ≡ self.old.samples) }
     {
         let last = self.spans.last().map(|spans| spans.list);
         let list = self
@@ -384,16 +385,15 @@ impl Samples {
     /// `NoMemory`, also where all samples together would have 2^32 location ids, values or labels; the samples are then
     /// as they were.
     pub fn push(&mut self, sample: &Sample) -> Result<(), NoMemory>
-        ensures pushed { OnOk result (self.new ≡ self.old ++ sample.now ∷ []) }
-        ensures unchanged { OnErr result (self.new ≡ self.old) }
+        ensures { MatchResult result (λ _. self.new ≡ self.old ++ sample.now ∷ []) (λ _. self.new ≡ self.old) }
     {
         Ok(self.lists.push(None, sample)?)
     }
 
     /// Adds the sample that the bytes spell.
     fn read(&mut self, alloc: Global, bytes: &[u8]) -> Result<(), ProfileFault>
-        ensures read { OnOk result (IsAppended (table_of sample_form) no_sample self.old bytes.now self.new) }
-        ensures fault { IfErr result (λ fault. fault ≢ ProfileFault.NoMemory
+        ensures { MatchResult result (λ _. IsAppended (table_of sample_form) no_sample self.old bytes.now self.new)
+            (λ fault. fault ≢ ProfileFault.NoMemory
             → IsFirstFieldFault (table_of sample_form) no_sample bytes.now fault) }
     {
         self.spare.clear();
@@ -411,10 +411,8 @@ pub(crate) fn push_sample(
     samples: &mut Samples,
     value: Value,
 ) -> Result<(), ProfileFault>
-    ensures added { OnOk result
-        (AddsMessage (table_of sample_form) no_sample samples.old (value_of value.entry) (Ok samples.new)) }
-    ensures fault { IfErr result (λ fault. fault ≢ ProfileFault.NoMemory
-        → AddsMessage (table_of sample_form) no_sample samples.old (value_of value.entry) (Err fault)) }
+    ensures { KeepsRule (AddsMessage (table_of sample_form) no_sample samples.old (value_of value.entry)) samples.new
+        result }
 {
     let Value::Bytes(bytes) = value else {
         return Err(ProfileFault::Wire(WireFault::WireType));

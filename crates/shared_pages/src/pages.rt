@@ -1,7 +1,7 @@
 //! Pages of items.
 
-ghost use Rattle.std.specs.Prelude.{◌≡◌, ◌<◌, ◌≤◌, ◌+◌, ◌^◌, ◌++◌, ◌∷◌, [], length, take, IfOk, MatchResult, OnOk};
-ghost use Rattle.std.specs.Prelude.{OnErr, slice_set, slice_index_or};
+ghost use Rattle.std.specs.Prelude.{◌≡◌, ◌<◌, ◌≤◌, ◌+◌, ◌^◌, ◌++◌, ◌∷◌, [], length, take, IfOk, MatchResult};
+ghost use Rattle.std.specs.Prelude.{slice_set, slice_index_or};
 ghost use Rattle.std.specs.Arc.{arc_value};
 ghost use Rattle.shared_pages.specs.Pages.{IsInPages, last_items, with_item};
 
@@ -116,8 +116,7 @@ impl<T: Clone + Drop> Pages<T> {
     pub fn replace(&mut self, at: usize, item: T) -> Result<(), AllocError>
         requires exact { (x y : T) → T.is_clone x y → y ≡ x }
         requires within { at < length self.old }
-        ensures ok { OnOk result (self.new ≡ slice_set self.old at item) }
-        ensures err { OnErr result (self.new ≡ self.old) }
+        ensures { MatchResult result (λ _. self.new ≡ slice_set self.old at item) (λ _. self.new ≡ self.old) }
     {
         if at < self.shelved {
             put_in_part(&mut self.shelves, at, item)
@@ -133,8 +132,7 @@ impl<T: Clone + Drop> Pages<T> {
     /// `AllocError`, where memory runs out. All items stay then.
     pub fn append(&mut self, item: T) -> Result<(), AllocError>
         requires exact { (x y : T) → T.is_clone x y → y ≡ x }
-        ensures ok { OnOk result (self.new ≡ self.old ++ item ∷ []) }
-        ensures err { OnErr result (self.new ≡ self.old) }
+        ensures { MatchResult result (λ _. self.new ≡ self.old ++ item ∷ []) (λ _. self.new ≡ self.old) }
     {
         let Some(len) = self.len.checked_add(1) else {
             return Err(AllocError);
@@ -199,10 +197,10 @@ fn shelve_full<T: Clone + Drop>(
 ) -> Result<usize, AllocError>
     requires exact { (x y : T) → T.is_clone x y → y ≡ x }
     requires pages { IsInPages (arc_value shelves.old) shelved (last_items last.old) len }
-    ensures ok { IfOk result (λ count. IsInPages (arc_value shelves.new) count (last_items last.new) len
+    ensures { MatchResult result (λ count. IsInPages (arc_value shelves.new) count (last_items last.new) len
         × (take count (arc_value shelves.new) ++ last_items last.new
-        ≡ take shelved (arc_value shelves.old) ++ last_items last.old) × (length (last_items last.new) < 64)) }
-    ensures err { OnErr result (IsInPages (arc_value shelves.new) shelved (last_items last.new) len
+        ≡ take shelved (arc_value shelves.old) ++ last_items last.old) × (length (last_items last.new) < 64))
+        (λ _. IsInPages (arc_value shelves.new) shelved (last_items last.new) len
         × (take shelved (arc_value shelves.new) ++ last_items last.new
         ≡ take shelved (arc_value shelves.old) ++ last_items last.old)) }
 {
@@ -223,10 +221,10 @@ fn put_all<T: Clone + Drop>(
     requires exact { (x y : T) → T.is_clone x y → y ≡ x }
     requires within { from ≤ length (arc_value shelves.old) }
     requires few { from + length items.now < 2 ^ 64 }
-    ensures ok { OnOk result ((take (from + length items.now) (arc_value shelves.new)
+    ensures { MatchResult result (λ _. (take (from + length items.now) (arc_value shelves.new)
         ≡ take from (arc_value shelves.old) ++ items.now)
-        × (from + length items.now ≤ length (arc_value shelves.new))) }
-    ensures err { OnErr result ((take from (arc_value shelves.new) ≡ take from (arc_value shelves.old))
+        × (from + length items.now ≤ length (arc_value shelves.new)))
+        (λ _. (take from (arc_value shelves.new) ≡ take from (arc_value shelves.old))
         × (from ≤ length (arc_value shelves.new))) }
 {
     for index in 0..items.len() {

@@ -18,7 +18,7 @@ loop-index-preserved c =
           HaveRoom-made
           c.args.size c.args.tables.now.items tables index room lt c.if-len-size.tables.items w.append.new.self
           (ap length (sym table_is) ∙ sym c.len.ensures ∙ w.if-len-size.true)
-          (w.in_ok-append.ensures.ok ∙ ap (λ t. t ++ 0 ∷ []) table_is) (ap (λ v. v.items) w.tables-is)
+          (w.in_ok-append.ensures ∙ ap (λ t. t ++ 0 ∷ []) table_is) (ap (λ v. v.items) w.tables-is)
       | else-len-size w ↦
           let long = room.same.kept.long index lt in
           let same = ap length table_is in

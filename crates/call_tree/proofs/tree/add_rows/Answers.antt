@@ -28,12 +28,12 @@ loop-index-preserved c =
     let added = c.in_ok-add_weight.ensures in
     record {
       trees = record {
-        trees = added.trees.trees;
-        width = added.trees.width ∙ so_far.trees.width;
-        others = λ other ne. added.trees.others other ne ∙ so_far.trees.others other ne;
+        trees = added.0.trees;
+        width = added.0.width ∙ so_far.trees.width;
+        others = λ other ne. added.0.others other ne ∙ so_far.trees.others other ne;
       };
       done = IsCredited-step (plain_of names c.args.nodes.now value)
           (plain_of names c.loop-index.nodes value) value rows c.args.slots.now c.requires.slots c.requires.fits
           c.loop-index.index lt so_far.done c.weight-weight.result c.weight-weight.ensures
-          (plain_of names c.add_weight.new.nodes value) refl added.nodes;
+          (plain_of names c.add_weight.new.nodes value) refl added.1;
     }

@@ -1,4 +1,4 @@
-use Rattle.std.proofs.lemmas.Result.{on_ok_weaker}
+use Rattle.std.proofs.lemmas.Result.{MatchResult-weaker}
 use Rattle.std.proofs.Common.{arith}
 use Rattle.call_tree.proofs.Raising.{finished, weight_fits}
 use Rattle.call_tree.proofs.Trees.{AreTreesBut-raised}
@@ -9,18 +9,14 @@ overflow_add-own c =
     let fits = weight_fits _ _ _ _ c.weight.result c.requires.within c.requires.fits c.weight.ensures in
     omega (arith, fits)
 
-pub returns-clause-trees : goal.returns-clause-trees
-returns-clause-trees c =
-    let value = c.args.value in
-    let nodes = c.put_weight.new.self in
-    on_ok_weaker c.put_weight.result
-    (λ put. AreTreesBut-raised c.args.names.now c.args.nodes.now nodes value c.requires.trees put.width
-    (finished _ _ _ _ _ c.weight.result (c.requires.trees value c.requires.value)
-    c.requires.within c.requires.fits c.weight.ensures put.here).tree put.others)
-    c.put_weight.ensures.ok
-
-pub returns-clause-nodes : goal.returns-clause-nodes
-returns-clause-nodes c =
-    on_ok_weaker c.put_weight.result
-    (λ put. (finished _ _ _ _ _ c.weight.result (c.requires.trees c.args.value c.requires.value)
-    c.requires.within c.requires.fits c.weight.ensures put.here).rows) c.put_weight.ensures.ok
+pub returns : goal.returns
+returns c =
+    MatchResult-weaker c.put_weight.result c.put_weight.ensures
+    (λ _ put.
+    let done = finished _ _ _ _ _ c.weight.result (c.requires.trees c.args.value c.requires.value) c.requires.within
+    c.requires.fits c.weight.ensures put.here in (
+      AreTreesBut-raised c.args.names.now c.args.nodes.now c.put_weight.new.self c.args.value c.requires.trees
+          put.width done.tree put.others,
+      done.rows,
+    ))
+    (λ _ same. same)

@@ -5,7 +5,6 @@ use Rattle.std.specs.Arc.{arc_value}
 use Rattle.std.specs.HashMap as hash
 use Rattle.call_tree.specs.State.{TreeState, AreGrown, AreStates, IsAppended, IsFresh, IsIndex, nodes_at, plain_at}
 use Rattle.call_tree.specs.State.{same_key}
-use Rattle.shared_pages.proofs.Cloning.{from_err}
 use Rattle.call_tree.proofs.Indexing.{IsIndex-look, IsIndex-added, from_ok}
 use Rattle.call_tree.proofs.Growing.{AreGrown-appended}
 use Rattle.call_tree.proofs.grower.Grower.add_child.Goals as goal
@@ -15,8 +14,7 @@ invariant_of-self c = grind (arith, common_steps, IsIndex-look)
 
 pub invariant_of-self-in_err-make_mut : goal.invariant_of-self-in_err-make_mut
 invariant_of-self-in_err-make_mut c =
-    let same = ⊎_elim (λ e. e) (λ e. e) (from_err c.make_mut.result
-    c.in_err-make_mut.field-0.0 c.in_err-make_mut.was c.make_mut.follows.holds-at-none) in (
+    let same = ⊎_elim (λ e. e) (λ e. e) (rw c.in_err-make_mut.was at c.make_mut.follows.holds-at-none) in (
       c.self.invariant.0 ∙ ap (λ (t : TreeState). t.names) (sym same),
       subst (λ (t : TreeState). IsIndex (hash.get same_key c.reserve.new.self) (plain_at t 0)) (sym same)
           (IsIndex-look (hash.get same_key c.self.inside.index) (hash.get same_key c.reserve.new.self)
@@ -27,7 +25,7 @@ pub invariant_of-self-in_err-append_node : goal.invariant_of-self-in_err-append_
 invariant_of-self-in_err-append_node c =
     let made = ⊎_elim (λ e. e) (λ e. e) c.in_ok-make_mut.ensures.value in
     let same = c.make_mut.follows.holds c.append_node.new.self (ap is_ok c.in_ok-make_mut.was)
-    ∙ c.in_err-append_node.ensures.err ∙ made in (
+    ∙ c.in_err-append_node.ensures ∙ made in (
       c.self.invariant.0 ∙ ap (λ (t : TreeState). t.names) (sym same),
       subst (λ (t : TreeState). IsIndex (hash.get same_key c.reserve.new.self) (plain_at t 0)) (sym same)
           (IsIndex-look (hash.get same_key c.self.inside.index) (hash.get same_key c.reserve.new.self)
@@ -46,7 +44,7 @@ invariant_of-self-2 c =
     let before = IsIndex-look (hash.get same_key c.self.inside.index)
     (hash.get same_key c.reserve.new.self) tree c.in_ok-reserve.ensures.entries.2 c.self.invariant.1 in
     let ok = subst (λ (t : TreeState). IsAppended t c.args.parent c.args.name c.append_node.new.self)
-    made c.in_ok-append_node.ensures.ok in
+    made c.in_ok-append_node.ensures in
     let spare = c.in_ok-reserve.ensures.ok in
     let updates =
     from_ok c.insert.result _ (c.insert.ensures.succeeds (omega (arith, spare))) c.insert.ensures.updates in
@@ -69,7 +67,7 @@ returns-clause-nodes c =
     let made = ⊎_elim (λ e. e) (λ e. e) c.in_ok-make_mut.ensures.value ∙ c.self.view_is in
     let states = subst AreStates (c.deref-2.ensures ∙ c.self.view_is) c.facts.ensures in
     let ok = subst (λ (t : TreeState). IsAppended t c.args.parent c.args.name c.append_node.new.self)
-    made c.in_ok-append_node.ensures.ok in
+    made c.in_ok-append_node.ensures in
     let next_is = c.make_mut.follows.holds c.append_node.new.self (ap is_ok c.in_ok-make_mut.was) in
     record {
       grown = subst (AreGrown c.args.self.now) (sym next_is)

@@ -20,7 +20,7 @@ invariant_of-self-2 c =
     let made : c.in_ok-make_mut.field-0.now ≡ arc_value c.self.inside.tree =
     ⊎_elim (λ e. e) (λ e. e) c.in_ok-make_mut.ensures.value in
     let next_is = c.make_mut.follows.holds c.append_name.new.self (ap is_ok c.in_ok-make_mut.was) in
-    let ok = c.in_ok-append_name.ensures.ok in
+    let ok = c.in_ok-append_name.ensures in
     let listed : c.in_ok-listed.listed ≡ c.args.name.now = c.in_ok-listed.ensures.cases in
     let key : c.in_ok-key.key ≡ c.args.name.now = c.in_ok-key.ensures.cases in
     let absent = subst (λ (t : TreeState). (k : ℕ) → k < length t.names → name_at t.names k ≡ c.args.name.now → ⊥)

@@ -1,7 +1,7 @@
 -- One row of one value in the tree of a grower, in place.
 use Rattle.std.proofs.lemmas.Grind.{common_steps}
 use Rattle.std.proofs.Common.{rules, arith}
-use Rattle.shared_pages.proofs.Cloning.{on_err}
+use Rattle.std.proofs.lemmas.Result.{err_from_is_err_and}
 use Rattle.call_tree.proofs.Growing.{HasSameWeights-grown, weights-credited, weights-grown}
 use Rattle.call_tree.proofs.Planned.{IsIndex-credited}
 use Rattle.call_tree.proofs.Totals.{total_in-weights_of}
@@ -10,12 +10,12 @@ use Rattle.call_tree.proofs.grower.Grower.add_row.Goals as goal
 pub add_row-requires-clause-fits : goal.add_row-requires-clause-fits
 add_row-requires-clause-fits c = grind (arith, common_steps, weights-grown, total_in-weights_of)
 
-pub returns-in_err-add_row-clause-same : goal.returns-in_err-add_row-clause-same
-returns-in_err-add_row-clause-same c = grind (arith, common_steps, on_err, HasSameWeights-grown)
+pub returns-in_err-add_row : goal.returns-in_err-add_row
+returns-in_err-add_row c = grind (arith, common_steps, err_from_is_err_and, HasSameWeights-grown)
 
 pub invariant_of-self-2 : goal.invariant_of-self-2
 invariant_of-self-2 c = grind (arith, IsIndex-credited)
 
-pub returns-clause-added : goal.returns-clause-added
-returns-clause-added c =
+pub returns : goal.returns
+returns c =
     record { weights = search (rules, weights-credited, weights-grown); width = grind (arith, common_steps) }

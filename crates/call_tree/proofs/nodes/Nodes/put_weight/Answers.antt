@@ -10,5 +10,5 @@ replace-requires-clause-within c = grind (arith, common_steps, in_tables, in_tab
 pub invariant_of-self-2 : goal.invariant_of-self-2
 invariant_of-self-2 c = grind (arith, common_steps, length-set, in_tables, tables_put)
 
-pub returns-clause-ok : goal.returns-clause-ok
-returns-clause-ok c = grind (arith, common_steps, in_tables, weight_put, others_put)
+pub returns : goal.returns
+returns c = grind (arith, common_steps, in_tables, weight_put, others_put)

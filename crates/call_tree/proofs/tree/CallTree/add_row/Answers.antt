@@ -11,5 +11,5 @@ add_weight-requires-clause-within c = search (rules, row_within)
 pub invariant_of-self-2 : goal.invariant_of-self-2
 invariant_of-self-2 c = grind (arith, common_steps, AreCredited-row, HasTotal-credited)
 
-pub returns-clause-ok : goal.returns-clause-ok
-returns-clause-ok c = grind (arith, common_steps, AreCredited-row)
+pub returns : goal.returns
+returns c = grind (arith, common_steps, AreCredited-row)

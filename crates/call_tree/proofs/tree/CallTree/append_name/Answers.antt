@@ -14,13 +14,13 @@ invariant_of-self-2 c =
     let absent = subst
     (λ (ns : List (List ℕ)). (k : ℕ) → k < length ns → name_at ns k ≡ c.args.name → ⊥) (sym names) c.requires in (
       (λ value lt. subst (λ ns. IsTree ns (nodes_of c.self.inside.nodes value))
-          (sym c.in_ok-append.ensures.ok) (IsTree-named _ _ c.args.name (c.self.invariant.0 value lt) absent)),
+          (sym c.in_ok-append.ensures) (IsTree-named _ _ c.args.name (c.self.invariant.0 value lt) absent)),
       HasTotal-same (tree_of c.self.inside.names c.self.inside.nodes)
           (tree_of c.append.new.self c.self.inside.nodes) c.self.inside.total c.self.invariant.1 refl
           (λ value. ap (λ vs. total_of (get_or vs value []))
-          (ap (λ ns. map (node_rows ns) c.self.inside.nodes) c.in_ok-append.ensures.ok
+          (ap (λ ns. map (node_rows ns) c.self.inside.nodes) c.in_ok-append.ensures
           ∙ values_named c.self.inside.names c.self.inside.nodes c.args.name c.self.invariant.0 absent)),
     )
 
-pub returns-clause-ok : goal.returns-clause-ok
-returns-clause-ok c = grind (arith, values_named)
+pub returns : goal.returns
+returns c = grind (arith, values_named)

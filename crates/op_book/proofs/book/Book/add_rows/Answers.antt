@@ -43,7 +43,7 @@ invariant_of-self-2 c =
     c.append.ensures ∙ ap (λ (l : LedgerState). l.width) c.in_ok-reserve.ensures.same in
     let after = IsTreeAfter-added (book_of c.self.inside.ledger c.self.inside.grower)
     c.add.new.self batch c.self.invariant.0 c.self.invariant.1 c.aggregate_of_more_rows.ensures
-    (subst (HasAdded c.self.inside.grower c.add.new.self) c.deref-2.ensures c.in_ok-add.ensures.added) in (
+    (subst (HasAdded c.self.inside.grower c.add.new.self) c.deref-2.ensures c.in_ok-add.ensures) in (
       after.width ∙ sym width,
       λ value. after.aggregate value ∙ ap (λ ops. aggregates_of (profile_after ops) value) (sym operations),
     )

@@ -1,6 +1,6 @@
 -- The first field is taken after nothing.
-use Rattle.std.proofs.Common.{Err, Ok, Result, inl, inr, refl}
-use Rattle.std.specs.Prelude.{MatchResult}
+use Rattle.std.proofs.Common.{inl, inr, refl}
+use Rattle.std.proofs.lemmas.Result.{MatchResult-weaker}
 use Rattle.pprof_wire.specs.Fields.{field_of}
 use Rattle.pprof_profile.specs.Forms.{table_of}
 use Rattle.pprof_profile.specs.LocationLists.{begun_ids}
@@ -10,18 +10,13 @@ use Rattle.pprof_profile.specs.SampleLists.{with_ids_before}
 use Rattle.pprof_profile.proofs.Gathering.{nothing_read, read_more}
 use Rattle.pprof_profile.proofs.samples.SampleLists.take_first.Goals as goal
 
-matched : {T E : Type 0} {P Q : T → Type 0} {R S : E → Type 0} (r : Result T E)
-    → ((value : T) → P value → Q value) → ((fault : E) → R fault → S fault) → MatchResult r P R → MatchResult r Q S
-matched (Ok value) f g p = f value p
-matched (Err fault) f g p = g fault p
-
 pub returns-in-Some-Ok-clause-taken : goal.returns-in-Some-Ok-clause-taken
 returns-in-Some-Ok-clause-taken c =
     let bytes = c.args.fields.now.bytes in
     let next = rw c.in-Some-Ok.field-0-is at c.in-Some-Ok.ensures.read.field in
     let nothing : IsReadSoFar (table_of sample_form) no_sample bytes c.args.sample.now bytes =
     rw c.requires (nothing_read (table_of sample_form) no_sample bytes) in
-    matched c.take_field.result
+    MatchResult-weaker c.take_field.result c.take_field.ensures.taken
     (λ begun taken. (
       taken.0,
       read_more (table_of sample_form) no_sample c.args.sample.now
@@ -41,7 +36,7 @@ returns-in-Some-Ok-clause-taken c =
         spelled = next.spelled;
         faulty = is known;
       });
-    }) c.take_field.ensures.taken
+    })
 
 pub returns-in-Some-Err-clause-taken : goal.returns-in-Some-Err-clause-taken
 returns-in-Some-Err-clause-taken c = λ known. record {

@@ -10,8 +10,8 @@ use Rattle.pprof_profile.proofs.Gathering.{fault_after, read_after}
 use Rattle.pprof_profile.proofs.IdsBefore.{first_fault_before, spells_before}
 use Rattle.pprof_profile.proofs.samples.Samples.read.Goals as goal
 
-pub returns-in_err-take_fields-clause-fault : goal.returns-in_err-take_fields-clause-fault
-returns-in_err-take_fields-clause-fault c =
+pub returns-in_err-take_fields : goal.returns-in_err-take_fields
+returns-in_err-take_fields c =
     let p = err_from_is_err_and c.from_residual-in_err-take_fields.result
     c.from_residual-in_err-take_fields.ensures.1 in
     let ids = begun_ids c.take_first.new.self.lists c.in_ok-begun.begun in
@@ -23,8 +23,8 @@ returns-in_err-take_fields-clause-fault c =
     (first_fault_before ids c.take_first.new.sample c.take_first.new.fields.bytes c.in_err-take_fields.field-0.0
     (c.in_err-take_fields.ensures.fault known)))
 
-pub returns-clause-read : goal.returns-clause-read
-returns-clause-read c =
+pub returns : goal.returns
+returns c =
     let ids = begun_ids c.take_first.new.self.lists c.in_ok-begun.begun in
     let first : IsReadSoFar (table_of sample_form) no_sample c.args.bytes.now
     (with_ids_before ids c.take_first.new.sample) c.take_first.new.fields.bytes =
@@ -35,7 +35,7 @@ returns-clause-read c =
           (with_ids_before ids c.take_fields.new.message) first
           (spells_before ids c.take_first.new.sample c.take_fields.new.message c.take_first.new.fields.bytes
           c.in_ok-take_fields.ensures.done);
-      appended = c.in_ok-push.ensures.pushed
+      appended = c.in_ok-push.ensures
           ∙ ap (λ before. before ++ with_ids_before ids c.take_fields.new.message ∷ [])
           (c.take_first.ensures.kept ∙ c.self.view_is);
     }

@@ -3,8 +3,8 @@ use Rattle.std.specs.Prelude.{ℕ, ◌≡◌, ◌+◌, List, MatchOption, None, 
 use Rattle.collect_sources.specs.Lines.{AreFirstLines}
 use Rattle.profile_store.specs.Aggregate.{aggregate_of}
 use Rattle.profile_store.specs.LineSums.{AreAddedLines}
+use Rattle.profile_store.specs.SpelledRows.{spelled_rows}
 use Rattle.profile_store.specs.StackTexts.{TextState}
-use Rattle.profile_store.specs.TextRows.{spelled_rows}
 use Rattle.profile_store.specs.Values.{BatchState, single_batch}
 use Rattle.profile_store.specs.declared.FoldedFault.{FoldedFault}
 use Rattle.profile_store.specs.declared.FoldedFault.TheVariants.{NotUtf8, NoCount, Count, Depth, Heavy, NoMemory}

@@ -6,7 +6,7 @@ ghost use Rattle.profile_store.specs.Values.{rows_at};
 ghost use Rattle.store_window.specs.Added.{rows_added_by};
 
 use anyhow::Result;
-use profile_store::OrderedRows;
+use profile_store::{OrderedRows, write_ordered};
 use std::alloc::Global;
 use store_window::ClosedWindow;
 
@@ -22,5 +22,5 @@ pub(crate) fn report_of(alloc: Global, window: &ClosedWindow) -> Result<Vec<u8>>
     let tree = window.audited_tree(alloc)?;
     let texts = tree.stack_texts(alloc, 0)?;
     let rows = OrderedRows::of_texts(alloc, texts.as_slice())?;
-    Ok(rows.write(alloc)?)
+    Ok(write_ordered(alloc, &rows)?)
 }

@@ -12,8 +12,9 @@ use crate::query::{Kind, Query};
 use crate::top::top_list;
 use basics::Items;
 use call_tree::CallTree;
-use folded_text::OrderedRows;
+use folded_text::write_ordered;
 use name_counts::kept_totals;
+use ordered_rows::OrderedRows;
 use profile_rows::{Batch, FrameTotals, Hashing, NoMemory, WeightedStacks};
 use std::alloc::Global;
 
@@ -69,7 +70,7 @@ pub fn report_in_order(
             Ok(Answer::Top(top_list(totals, rank, count)?))
         }
         Kind::Flame { columns } => Ok(Answer::Flame(flame_of(alloc, hashing, &kept, columns)?)),
-        Kind::Folded => Ok(Answer::Folded(Items::new(kept.write(alloc)?))),
+        Kind::Folded => Ok(Answer::Folded(Items::new(write_ordered(alloc, &kept)?))),
     }
 }
 

@@ -8,7 +8,7 @@ use Rattle.profile_rows.specs.Merging.{AddsRow, AreMergedSoFar}
 use Rattle.profile_rows.specs.StackTexts.{TextState}
 use Rattle.profile_rows.proofs.MergedRows.{AreMergedSoFar-row}
 use Rattle.folded_text.specs.FoldedText.{AreRowLines, IsRowLine}
-use Rattle.folded_text.specs.TextRows.{spelled_rows}
+use Rattle.ordered_rows.specs.SpelledRows.{spelled_rows}
 use Rattle.folded_text.proofs.Reading.{AreRowLines-push, AreRowLines-skip}
 
 -- the lines of a text up to its rest were added, and the next one has this number

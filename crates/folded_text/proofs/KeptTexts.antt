@@ -18,9 +18,9 @@ use Rattle.profile_rows.specs.Rows.{total_of}
 use Rattle.profile_rows.specs.StackTexts.{TextState}
 use Rattle.profile_rows.proofs.MergedRows.{AddsRow-added}
 use Rattle.profile_rows.proofs.SameNames.{same_from_is_same_name}
-use Rattle.folded_text.specs.FoldedText.{frames_of}
+use Rattle.ordered_rows.specs.StackFrames.{frames_of}
 use Rattle.folded_text.specs.LineSums.{AreKeptTexts, kept_row, kept_rows}
-use Rattle.folded_text.specs.TextRows.{IsStackText, rows_with, spelled_row, spelled_rows}
+use Rattle.ordered_rows.specs.SpelledRows.{IsStackText, rows_with, spelled_row, spelled_rows}
 use Rattle.folded_text.proofs.TextRows.{spelled-added, weight-within}
 
 abbrev none : TextState

@@ -3,15 +3,10 @@ pub mod Counting
 pub mod Counts
 pub mod Cuts
 pub mod FirstFault
-pub mod FrameNames
-pub mod Fronts
 pub mod KeptTexts
 pub mod Lines
 pub mod MergedLines
-pub mod Pieces
 pub mod Reading
-pub mod StackOrder
-pub mod StackTexts
 pub mod TextRows
 pub mod Waiting
 pub mod WorkedTexts

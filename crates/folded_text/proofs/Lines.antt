@@ -13,7 +13,7 @@ use borrow.Author.Tests.{eqb-false}
 use Prim.Native.Nat.{zero, suc}
 use Rattle.bstr.specs.Text.{lines_of, without_terminator}
 use Rattle.bstr.proofs.lemmas.LineLemmas.{lines-append, lines-empty, lines-one}
-use Rattle.folded_text.proofs.Pieces.{pieces, slice_split-whole}
+use Rattle.ordered_rows.proofs.Pieces.{pieces, slice_split-whole}
 
 abbrev pub IsFeed : ℕ → Bool
 IsFeed byte = eqb byte 10

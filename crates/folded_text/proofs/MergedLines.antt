@@ -9,8 +9,10 @@ use Rattle.profile_rows.specs.Merging.{IsStackAt}
 use Rattle.profile_rows.specs.Rows.{total_of}
 use Rattle.profile_rows.specs.StackTexts.{TextState}
 use Rattle.profile_rows.proofs.MergedRows.{AddsRow-added}
-use Rattle.folded_text.specs.FoldedText.{HasWeight, IsLineFault, frames_of}
-use Rattle.folded_text.specs.TextRows.{AddsLine, IsTooHeavy, WeighsMoreAt, spelled_rows}
+use Rattle.folded_text.specs.FoldedText.{HasWeight, IsLineFault}
+use Rattle.ordered_rows.specs.StackFrames.{frames_of}
+use Rattle.folded_text.specs.TextRows.{AddsLine, IsTooHeavy, WeighsMoreAt}
+use Rattle.ordered_rows.specs.SpelledRows.{spelled_rows}
 use Rattle.folded_text.proofs.Reading.{IsLineFault-fitting, IsRowLine-read}
 
 -- the row of the line's stack weighs more now, or can weigh no more

@@ -12,7 +12,8 @@ use Rattle.folded_text.specs.declared.folded.FoldedFault.{FoldedFault}
 use Rattle.folded_text.specs.declared.folded.FoldedFault.TheVariants.{NotUtf8, NoCount, Count, Depth, Heavy, NoMemory}
 use Rattle.profile_rows.specs.Rows.{total_of}
 use Rattle.folded_text.specs.FoldedText.{HasCount, HasWeight, IsRowLine, AreRowLines, IsFoldedText, IsLineFault}
-use Rattle.folded_text.specs.FoldedText.{IsFirstFault, IsFittingFault, IsWorkFault, frames_of}
+use Rattle.folded_text.specs.FoldedText.{IsFirstFault, IsFittingFault, IsWorkFault}
+use Rattle.ordered_rows.specs.StackFrames.{frames_of}
 use Rattle.std.specs.Prelude.{All}
 use Rattle.std.specs.declared.iter.Enumerate.{Enumerate}
 use Rattle.bstr.specs.Text.{lines_of, without_terminator}

@@ -1,21 +1,9 @@
 -- Rows by their texts, which wait to be counted or to be given names.
-use Rattle.std.proofs.lemmas.Grind.{common_steps}
-use Rattle.std.proofs.Common.{◌≡◌, ℕ, ◌+◌, ◌<◌, ◌^◌, List, [], ◌∷◌, ◌++◌, length, take, get_or, refl, arith}
-use Rattle.std.proofs.lemmas.List.{take-map}
-use Rattle.std.proofs.lemmas.List.Sums.{sum_by_more_le}
+use Rattle.std.proofs.Common.{◌≡◌, ◌+◌, ◌<◌, ◌^◌, List, [], ◌∷◌, ◌++◌, refl}
 use Rattle.profile_rows.specs.declared.weighted_stacks.WeightedStack.{WeightedStack}
 use Rattle.profile_rows.specs.Merging.{AddsRow, AreMergedSoFar}
 use Rattle.profile_rows.specs.Rows.{total_of}
 use Rattle.profile_rows.proofs.MergedRows.{AreMergedSoFar-row}
-use Rattle.profile_rows.specs.StackTexts.{TextState}
-use Rattle.folded_text.specs.TextRows.{spelled_row, spelled_rows}
-
--- a row follows those before it within the limit that all of them keep
-pub follows : (rows : List TextState) (i : ℕ) (d : TextState) → i < length rows
-    → total_of (spelled_rows rows) < 2 ^ 63 → total_of (spelled_rows (take i rows)) + (get_or rows i d).weight < 2 ^ 63
-follows rows i d lt fits =
-    let within = sum_by_more_le (λ (row : WeightedStack). row.weight) (spelled_rows rows) i (spelled_row d) in
-    grind (arith, common_steps, within, take-map)
 
 -- a row more of a text is a row more of the sums that wait
 pub waits : (rows merged sums new : List WeightedStack) (row : WeightedStack)

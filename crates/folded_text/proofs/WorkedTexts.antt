@@ -6,7 +6,8 @@ use Rattle.std.specs.Str.{IsUtf8}
 use Rattle.std.specs.Str.Parse.{IsNumeral, digits_value}
 use Rattle.profile_rows.proofs.WorkedAggregate.{mixed, rows_of-computed}
 use Rattle.profile_rows.proofs.WorkedRows.{a, b, row, text}
-use Rattle.folded_text.specs.FoldedText.{IsFoldedText, IsRowLine, folded_text_of, frames_of, rows_text}
+use Rattle.folded_text.specs.FoldedText.{IsFoldedText, IsRowLine, folded_text_of, rows_text}
+use Rattle.ordered_rows.specs.StackFrames.{frames_of}
 
 -- empty parts of a stack text are no frames, and a name may hold spaces
 empty-parts : frames_of (codes "a;;b") ≡ a ∷ b ∷ []

@@ -1,8 +1,8 @@
 -- Rows as folded text, which is folded text of these rows.
 use Rattle.std.proofs.lemmas.Str.Ascii.{IsAscii-from_all}
 use Rattle.std.proofs.lemmas.Grind.{common_steps}
-use Rattle.std.proofs.Common.{◌≡◌, ℕ, ◌+◌, ◌-◌, ◌^◌, ◌<◌, false, eqb, List, [], ◌∷◌, ◌++◌, length, get_or, take, map}
-use Rattle.std.proofs.Common.{refl, sym, lit<, arith, append_assoc, length-append, ◌⊎◌, inl, inr, ◌≤◌}
+use Rattle.std.proofs.Common.{◌≡◌, ℕ, ◌+◌, ◌-◌, ◌^◌, ◌<◌, false, List, [], ◌∷◌, ◌++◌, length, get_or, take, map}
+use Rattle.std.proofs.Common.{refl, lit<, arith, length-append, ◌≤◌}
 use Rattle.std.specs.Prelude.{◌≢◌}
 use Rattle.std.specs.List.{AllByRecursion, All, join_with_byte}
 use Rattle.std.specs.Fmt.{decimal}
@@ -13,16 +13,16 @@ use Rattle.std.specs.Str.Parse.{IsNumeral, digits_value}
 use Rattle.std.proofs.lemmas.Fmt.{decimal_is_IsNumeral, IsAscii-decimal}
 use Rattle.std.proofs.lemmas.List.Elements.{All-append, All-cons, All-from_get_or, All-nil, All-weaker}
 use Rattle.std.proofs.lemmas.List.Elements.{recursion_from_All}
-use Rattle.std.proofs.lemmas.List.Splits.{slice_split_none, slice_split_at}
+use Rattle.std.proofs.lemmas.List.Splits.{slice_split_at}
 use Rattle.std.proofs.lemmas.Str.{IsUtf8-append, IsUtf8-from_ascii, IsUtf8-nil}
-use Rattle.std.proofs.lemmas.List.{get_or-map, append-nil, flat_map_more, length-map, length-take-le, take_more}
+use Rattle.std.proofs.lemmas.List.{get_or-map, flat_map_more, length-map, take_more}
 use borrow.Author.Tests.{ne_eqb}
 use Rattle.profile_rows.specs.declared.weighted_stacks.WeightedStack.{WeightedStack}
 use Rattle.profile_rows.specs.Names.{IsName}
 use Rattle.profile_rows.specs.Rows.{total_of, IsBatchRow}
 use Rattle.profile_rows.specs.Values.{Row, row_in, rows_at, weighing}
-use Rattle.folded_text.specs.FoldedText.{IsCounted, frames_of, IsRowLine, AreRowLines, IsFoldedText, row_text}
-use Rattle.folded_text.specs.FoldedText.{rows_text}
+use Rattle.ordered_rows.proofs.Joined.{frames_of-joined, joined_plain}
+use Rattle.folded_text.specs.FoldedText.{AreRowLines, IsCounted, IsFoldedText, IsRowLine, row_text, rows_text}
 use Rattle.std.proofs.lemmas.Str.Parse.{digit_at}
 use Rattle.folded_text.proofs.Lines.{IsFeed, more_parts}
 
@@ -42,31 +42,11 @@ utf8_after byte text ascii utf8 =
 
 -- ---- the stack text
 
--- names joined by semicolons hold no line feed
-pub joined_plain : (names : List (List ℕ))
-    → AllByRecursion IsName names → All (λ byte. byte ≢ 10) (join_with_byte 59 names)
-joined_plain [] all = All-nil (λ byte. byte ≢ 10)
-joined_plain (name ∷ []) all = all.0.no_line_feed
-joined_plain (name ∷ next ∷ names) all =
-    All-append (λ byte. byte ≢ 10) name (59 ∷ join_with_byte 59 (next ∷ names)) all.0.no_line_feed
-    (All-cons (λ byte. byte ≢ 10) 59 _ (λ e. omega (arith, e)) (joined_plain (next ∷ names) all.1))
-
 joined_utf8 : (names : List (List ℕ)) → AllByRecursion IsName names → IsUtf8 (join_with_byte 59 names)
 joined_utf8 [] all = IsUtf8-nil
 joined_utf8 (name ∷ []) all = all.0.utf8
 joined_utf8 (name ∷ next ∷ names) all = IsUtf8-append name (59 ∷ join_with_byte 59 (next ∷ names)) all.0.utf8
     (utf8_after 59 _ (lit< tt) (joined_utf8 (next ∷ names) all.1))
-
-uncut : (name : List ℕ) → IsName name → All (λ byte. eqb byte 59 ≡ false) name
-uncut name is k d lt = ne_eqb _ 59 (is.no_separator k d lt)
-
--- cut again, they are the names
-pub frames_of-joined : (names : List (List ℕ))
-    → AllByRecursion IsName names → frames_of (join_with_byte 59 names) ≡ names
-frames_of-joined [] all = refl
-frames_of-joined (name ∷ []) all = grind (arith, common_steps, slice_split_none, uncut)
-frames_of-joined (name ∷ next ∷ names) all =
-    grind (arith, common_steps, slice_split_at, uncut, frames_of-joined (next ∷ names) all.1)
 
 -- ---- the line
 

@@ -1,14 +1,15 @@
 -- Folded stacks as text, read and written (FlameGraph, the header comment of flamegraph.pl: one line for each stack,
 -- its frames from root to leaf separated by semicolons, then a space and a count). What reads it strictly is this
 -- project's choice.
-use Rattle.std.specs.Prelude.{ℕ, ◌≡◌, ◌≢◌, ◌⊎◌, ◌+◌, ◌^◌, ◌<◌, ◌≤◌, ◌==◌, List, [], ◌∷◌, ◌++◌, filter, length, not}
+use Rattle.std.specs.Prelude.{ℕ, ◌≡◌, ◌≢◌, ◌⊎◌, ◌+◌, ◌^◌, ◌<◌, ◌≤◌, List, [], ◌∷◌, ◌++◌, length}
 use Rattle.std.specs.Prelude.{All, MatchResult, Result}
-use Rattle.std.specs.List.{slice_split, flat_map, join_with_byte}
+use Rattle.std.specs.List.{flat_map, join_with_byte}
 use Rattle.std.specs.Fmt.{decimal}
 use Rattle.std.specs.Str.{IsUtf8}
 use Rattle.std.specs.Str.Lines.{lines}
 use Rattle.std.specs.Str.Parse.{IsNumeral, digits_value}
 use Rattle.profile_rows.specs.declared.weighted_stacks.WeightedStack.{WeightedStack}
+use Rattle.ordered_rows.specs.StackFrames.{frames_of}
 use Rattle.profile_rows.specs.Values.{BatchState, single_batch}
 use Rattle.folded_text.specs.declared.folded.FoldedFault.{FoldedFault}
 use Rattle.folded_text.specs.declared.folded.FoldedFault.TheVariants.{NotUtf8, NoCount, Count, Depth, Heavy, NoMemory}
@@ -16,19 +17,6 @@ use Rattle.profile_rows.specs.Names.{IsName}
 use Rattle.profile_rows.specs.Limits.{most_frames}
 use Rattle.profile_rows.specs.Rows.{total_of}
 use Rattle.profile_rows.specs.Aggregate.{aggregate_of, rows_of}
-
--- the frames of a stack text: the pieces between its semicolons, without the empty ones
-abbrev pub frames_of : List ℕ → List (List ℕ)
-frames_of text = filter (λ piece. not (length piece == 0)) (slice_split (λ byte. byte == 59) text)
-
--- a piece between semicolons as frames: one, and none where it is empty
-abbrev pub frame_in : List ℕ → List (List ℕ)
-frame_in piece = filter (λ piece. not (length piece == 0)) (piece ∷ [])
-
--- the frames of a stack text, each of which can be a name
-pub record AreFrames (text : List ℕ) (frames : List (List ℕ)) : Type 0 where
-  pub texts : frames ≡ frames_of text
-  pub names : All IsName frames
 
 -- The line is a stack text, a space and the digits of a count. Digits hold no space, so it is the line's last one.
 pub record HasCount (line stack digits : List ℕ) : Type 0 where

@@ -8,7 +8,7 @@ use Rattle.profile_rows.specs.Rows.{total_of}
 use Rattle.profile_rows.specs.StackTexts.{TextState}
 use Rattle.folded_text.specs.declared.folded.FoldedFault.{FoldedFault}
 use Rattle.folded_text.specs.FoldedText.{AreRowLines, IsLineFault}
-use Rattle.folded_text.specs.TextRows.{IsStackText, spelled_rows}
+use Rattle.ordered_rows.specs.SpelledRows.{IsStackText, spelled_rows}
 
 -- a row by its stack text, which is kept
 abbrev pub kept_row : {Z : Type 0} → String Z × ℕ → TextState

@@ -4,7 +4,7 @@ use Rattle.profile_rows.specs.declared.weighted_stacks.WeightedStack.{WeightedSt
 use Rattle.name_counts.specs.declared.counted_rows.CountedRows.{CountedRows}
 use Rattle.name_counts.specs.Tallies.{HasCounted}
 use Rattle.profile_rows.specs.StackTexts.{TextState}
-use Rattle.folded_text.specs.TextRows.{spelled_rows}
+use Rattle.ordered_rows.specs.SpelledRows.{spelled_rows}
 
 -- the rows wait to be counted, or are counted
 abbrev pub AreCounted : Option (List TextState) → CountedRows → List WeightedStack → Type 0

@@ -8,10 +8,10 @@ ghost use Rattle.folded_text.specs.FoldedText.{IsLineFault, IsRowAfter};
 ghost use Rattle.profile_rows.specs.Names.{IsName};
 ghost use Rattle.profile_rows.specs.Rows.{total_of};
 
-use crate::stack_frames::{measured, replace_by_text};
 use crate::taking::{LineTaker, take_lines};
 use basics::NoMemory;
 use name_counts::KnownNames;
+use ordered_rows::{measured, replace_by_text};
 use profile_rows::{Batch, Hashing, MAX_DEPTH, MAX_TOTAL, Stack, WeightedStacks};
 use simdutf8::basic;
 use std::alloc::Global;

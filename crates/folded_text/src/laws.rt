@@ -4,10 +4,9 @@ ghost use Rattle.std.specs.Prelude.{ℕ, ◌≡◌, ◌⊎◌, ◌^◌, ◌++◌
 ghost use Rattle.profile_rows.specs.declared.weighted_stacks.WeightedStack.{WeightedStack};
 ghost use Rattle.folded_text.specs.declared.folded.FoldedFault.{FoldedFault};
 ghost use Rattle.folded_text.specs.declared.folded.FoldedFault.TheVariants.{NoMemory};
-ghost use Rattle.profile_rows.specs.Rows.{IsBatchRow, stack_cmp, total_of};
+ghost use Rattle.profile_rows.specs.Rows.{IsBatchRow, total_of};
 ghost use Rattle.profile_rows.specs.Aggregate.{aggregate_of, rows_of};
-ghost use Rattle.folded_text.specs.FoldedText.{IsFirstFault, IsFoldedText, folded_text_of, frames_of, rows_text};
-ghost use Rattle.folded_text.specs.StackOrder.{IsJoined, stack_text_cmp};
+ghost use Rattle.folded_text.specs.FoldedText.{IsFirstFault, IsFoldedText, folded_text_of, rows_text};
 
 /// The text of rows that a batch can hold is folded text of exactly these rows, also of those of weight 0.
 pub fn written_rows_read_back()
@@ -26,13 +25,6 @@ pub fn reports_of_parts_add_up()
     ensures report { (rows more : List WeightedStack)
         → folded_text_of (rows_of (aggregate_of rows) ++ rows_of (aggregate_of more))
         ≡ folded_text_of (rows ++ more) }
-{}
-
-/// Stack texts without empty frames, compared by their bytes with the semicolon lowest, are in the order of their
-/// stacks.
-pub fn stack_texts_are_in_the_order_of_stacks()
-    ensures { (text other : List ℕ) → IsJoined text → IsJoined other
-        → stack_text_cmp text other ≡ stack_cmp (frames_of text) (frames_of other) }
 {}
 
 /// A text has at most one first fault, `NoMemory` aside (`one`), and folded text has none (`none`). So whatever

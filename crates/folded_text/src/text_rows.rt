@@ -5,18 +5,18 @@ ghost use Rattle.std.specs.Prelude.{◌≡◌, ◌≢◌, ◌+◌, ◌^◌, ◌<
 ghost use Rattle.std.specs.Prelude.{IsTrue, MatchOption, MatchResult, OnOk, length};
 ghost use Rattle.profile_rows.specs.Merging.{AddsRow, AreMergedSoFar, IsStackAt};
 ghost use Rattle.profile_rows.specs.Rows.{total_of};
-ghost use Rattle.folded_text.specs.FoldedText.{IsFirstFault, IsLineFault, IsOfText, frames_of};
-ghost use Rattle.folded_text.specs.LineSums.{AreKeptTexts};
-ghost use Rattle.folded_text.specs.StackOrder.{IsJoined};
-ghost use Rattle.folded_text.specs.TextRows.{AddUpTo, AddsLine, AreTextRows, AreWithinLimits, IsMeasured, IsStackText};
-ghost use Rattle.folded_text.specs.TextRows.{IsTooHeavy, WeighsMoreAt, rows_with, spelled_rows};
+ghost use Rattle.folded_text.specs.FoldedText.{IsFirstFault, IsLineFault, IsOfText};
+ghost use Rattle.ordered_rows.specs.StackFrames.{frames_of};
+ghost use Rattle.ordered_rows.specs.StackOrder.{IsJoined};
+ghost use Rattle.folded_text.specs.TextRows.{AddUpTo, AddsLine, AreWithinLimits};
+ghost use Rattle.ordered_rows.specs.SpelledRows.{AreTextRows, IsMeasured, IsStackText, rows_with, spelled_rows};
+ghost use Rattle.folded_text.specs.TextRows.{IsTooHeavy, WeighsMoreAt};
 
 use crate::folded::{FoldedFault, fitting, push_frames, stack_and_weight};
-use crate::stack_frames::{measured, replace_by_text};
 use crate::taking::{LineTaker, take_lines};
-use crate::text_row::TextRow;
 use basics::NoMemory;
 use name_counts::{KnownNames, TextTable};
+use ordered_rows::{TextRow, measured, replace_by_text};
 use profile_rows::{Hashing, MAX_TOTAL, WeightedStacks};
 use std::alloc::Global;
 use std::marker::Model;
@@ -78,13 +78,13 @@ impl<'a> TextRows<'a> {
         self.total
     }
 
-    /// The rows, what they weigh together, and whether no stack text has an empty frame.
-    pub fn into_rows(self) -> (Vec<TextRow<'a>>, u64, bool)
+    /// The rows, and whether no stack text has an empty frame.
+    pub fn into_rows(self) -> (Vec<TextRow<'a>>, bool)
         ensures rows { result.0.items ≡ self.entry }
-        ensures kept { AreKeptTexts self.entry result.1 }
-        ensures joined { IsTrue result.2 → AreTextRows self.entry }
+        ensures limits { AreWithinLimits self.entry }
+        ensures joined { IsTrue result.1 → AreTextRows self.entry }
     {
-        (self.rows, self.total, self.are_joined)
+        (self.rows, self.are_joined)
     }
 
     /// The index of the row of a stack text, where there is one.

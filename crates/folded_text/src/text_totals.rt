@@ -7,16 +7,15 @@ ghost use Rattle.profile_rows.specs.Rows.{total_of};
 ghost use Rattle.name_counts.specs.Tallies.{HasCounted};
 ghost use Rattle.profile_rows.specs.TopList.{AreTotalsOf};
 ghost use Rattle.folded_text.specs.FoldedText.{GivesOfRows, IsLineFault, IsRowLine};
-ghost use Rattle.folded_text.specs.TextRows.{IsStackText, spelled_rows};
+ghost use Rattle.ordered_rows.specs.SpelledRows.{IsStackText, spelled_rows};
 ghost use Rattle.folded_text.specs.TextSums.{AreCounted};
 
 use crate::folded::{FoldedFault, read_frames};
-use crate::stack_frames::replace_by_text;
 use crate::taking::{LineTaker, take_lines};
-use crate::text_row::TextRow;
 use crate::text_rows::TextRows;
 use basics::NoMemory;
 use name_counts::CountedRows;
+use ordered_rows::count_rows;
 use profile_rows::{FrameTotals, Hashing};
 use std::alloc::Global;
 
@@ -37,24 +36,6 @@ fn count_line<'a>(
 {
     let weight = read_frames(frames, line, rows.total(), number)?;
     Ok(rows.count(frames.as_slice(), weight)?)
-}
-
-/// Counts rows, one after the other.
-pub(crate) fn count_rows<'a>(
-    counted: &mut CountedRows<'a>,
-    frames: &mut Vec<&'a str>,
-    rows: &[TextRow<'a>],
-) -> Result<(), NoMemory>
-    requires none { HasCounted [] counted.old }
-    requires spelled { All (λ row. IsStackText row.text) rows.now }
-    requires fits { total_of (spelled_rows rows.now) < 2 ^ 63 }
-    ensures { OnOk result (HasCounted (spelled_rows rows.now) counted.new) }
-{
-    for row in rows {
-        replace_by_text(frames, row.text())?;
-        counted.count(frames.as_slice(), row.weight())?;
-    }
-    Ok(())
 }
 
 /// How many stack texts wait before it is looked at whether that saves work.

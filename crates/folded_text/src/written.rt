@@ -2,19 +2,20 @@
 
 ghost use Rattle.std.specs.Prelude.{◌≡◌, ◌++◌, ◌<◌, ◌≤◌, ◌∷◌, [], All, IfOk, OnOk, length, string_bytes};
 ghost use Rattle.std.specs.Fmt.{decimal};
-ghost use Rattle.folded_text.specs.FoldedText.{IsFoldedBatch, IsTextOf, row_text};
+ghost use Rattle.folded_text.specs.FoldedText.{IsFoldedBatch, IsTextOf, folded_text_of, row_text};
 ghost use Rattle.profile_rows.specs.Limits.{most_frames};
 ghost use Rattle.profile_rows.specs.Names.{IsName};
 ghost use Rattle.profile_rows.specs.Values.{rows_at};
 
 use basics::NoMemory;
 use itoa::Buffer;
+use ordered_rows::OrderedRows;
 use profile_rows::{Batch, Stack, WeightedStacks, push_joined};
 use std::alloc::{AllocError, Global};
 
 /// Ends a line with a space and its weight.
 #[inline(always)]
-pub(crate) fn end_line(text: &mut String, weight: u64) -> Result<(), AllocError>
+fn end_line(text: &mut String, weight: u64) -> Result<(), AllocError>
     ensures { OnOk result (string_bytes text.new ≡ string_bytes text.old ++ 32 ∷ decimal weight ++ 10 ∷ []) }
 {
     let mut buffer = Buffer::new();
@@ -64,6 +65,23 @@ pub fn write_folded(alloc: Global, batch: &Batch, value: u32) -> Result<Vec<u8>,
     let mut text = String::new(alloc);
     for at in 0..batch.first().rows().len() {
         push_row(&mut text, batch.row(at).stack, batch.weight(at, value))?;
+    }
+    Ok(text.into_bytes())
+}
+
+/// The folded report of rows in order: each row as [`write_stacks`] writes it.
+///
+/// # Errors
+///
+/// `NoMemory`.
+pub fn write_ordered(alloc: Global, rows: &OrderedRows) -> Result<Vec<u8>, NoMemory>
+    ensures { IfOk result (λ text. text.items ≡ folded_text_of rows.now) }
+{
+    rows.facts();
+    let mut text = String::new(alloc);
+    for at in 0..rows.len() {
+        rows.push_stack(&mut text, at)?;
+        end_line(&mut text, rows.weight(at))?;
     }
     Ok(text.into_bytes())
 }

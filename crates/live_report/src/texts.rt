@@ -17,11 +17,12 @@ use crate::progress::{Progress, RowGate};
 use crate::storing::{Stored, is_warm, store};
 use call_tree::CallTree;
 use flame_words::LiveOptions;
-use folded_text::OrderedRows;
+use folded_text::write_ordered;
 use live_store::Blank;
 use log_audit::audit_with;
 use op_book::laws::additions_count_since_the_last_reset;
 use op_book::{Journal, SessionLog};
+use ordered_rows::OrderedRows;
 use profile_rows::laws::aggregate_is_by_weights;
 use profile_rows::{Batch, Hashing, NoMemory, Width};
 use std::alloc::Global;
@@ -196,5 +197,5 @@ fn folded_report(alloc: Global, tree: &CallTree, value: u32) -> Result<Vec<u8>, 
 {
     let texts = tree.stack_texts(alloc, value)?;
     let rows = OrderedRows::of_texts(alloc, texts.as_slice())?;
-    rows.write(alloc)
+    write_ordered(alloc, &rows)
 }

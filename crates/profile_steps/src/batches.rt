@@ -7,7 +7,7 @@ use spelled_rows::{add_folded, width_of};
 use stack_text::{
     Batch, FoldedFault, Hashing, LineSums, NoMemory, OrderedRows, OwnedRow, Stack, WeightedStacks,
     Weights, aggregate, export_folded, folded_totals, merge_lines, read_folded, read_folded_with,
-    read_ordered, write_stacks,
+    read_ordered, write_ordered, write_stacks,
 };
 use std::alloc::Global;
 
@@ -213,7 +213,7 @@ fn agree_on_order(asked: Asked, sums: &WeightedStacks, made: &mut Made) {
 fn agree_on_text(ordered: &OrderedRows, sums: &WeightedStacks, made: &mut Made) {
     let alloc = made.alloc();
     match write_stacks(alloc, sums) {
-        Ok(text) => made.compare("read_ordered", ordered.write(alloc), &text),
+        Ok(text) => made.compare("read_ordered", write_ordered(alloc, ordered), &text),
         Err(_) => made.fail(Wrong::NoMemory),
     }
 }

@@ -5,7 +5,6 @@ pub use Rattle.flame_report.specs.Json
 pub use Rattle.flame_report.specs.Labels
 pub use Rattle.folded_text.specs.FoldedText
 pub use Rattle.folded_text.specs.LineSums
-pub use Rattle.folded_text.specs.OrderedRows
 pub use Rattle.folded_text.specs.TextRows
 pub use Rattle.folded_text.specs.TextSums
 pub use Rattle.live_store.specs.Sessions
@@ -18,6 +17,9 @@ pub use Rattle.op_book.specs.Changes
 pub use Rattle.op_book.specs.Operations
 pub use Rattle.op_book.specs.Receipts
 pub use Rattle.op_book.specs.Runs
+pub use Rattle.ordered_rows.specs.OrderedRows
+pub use Rattle.ordered_rows.specs.SpelledRows
+pub use Rattle.ordered_rows.specs.StackFrames
 pub use Rattle.pprof_profile.specs.AllValues
 pub use Rattle.pprof_profile.specs.ByFields
 pub use Rattle.pprof_profile.specs.Canonical

@@ -150,4 +150,5 @@ pub use stack_text::read_ordered;
 pub use stack_text::sample_totals;
 pub use stack_text::unfold;
 pub use stack_text::write_folded;
+pub use stack_text::write_ordered;
 pub use stack_text::write_stacks;

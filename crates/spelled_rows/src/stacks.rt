@@ -5,7 +5,7 @@ ghost use Rattle.std.specs.Prelude.{◌<◌};
 use call_tree::CallTree;
 use profile_rows::aggregate_stacks;
 use row_scripts::{Made, Wrong};
-use stack_text::{Batch, NoMemory, OrderedRows, WeightedStacks, write_stacks};
+use stack_text::{Batch, NoMemory, OrderedRows, WeightedStacks, write_ordered, write_stacks};
 use std::alloc::Global;
 
 /// Adds the stacks of a value, which are the same by their texts and by the rows of the tree.
@@ -54,5 +54,5 @@ fn folded_by_texts(alloc: Global, tree: &CallTree, value: u32) -> Result<Vec<u8>
 {
     let texts = tree.stack_texts(alloc, value)?;
     let rows = OrderedRows::of_texts(alloc, texts.as_slice())?;
-    rows.write(alloc)
+    write_ordered(alloc, &rows)
 }

@@ -2,6 +2,8 @@ pub use Rattle.folded_text.specs.FoldedText
 pub use Rattle.folded_text.specs.LineSums
 pub use Rattle.folded_text.specs.TextRows
 pub use Rattle.folded_text.specs.TextSums
+pub use Rattle.ordered_rows.specs.SpelledRows
+pub use Rattle.ordered_rows.specs.StackFrames
 pub use Rattle.profile_rows.specs.Aggregate
 pub use Rattle.profile_rows.specs.Equality
 pub use Rattle.profile_rows.specs.Layout

@@ -1,9 +1,9 @@
 //! Laws of the definitions that the contracts speak of, each the contract of a function that does nothing.
 
 pub use folded_text::laws::{
-    a_text_has_one_first_fault, reports_of_parts_add_up, stack_texts_are_in_the_order_of_stacks,
-    written_rows_read_back,
+    a_text_has_one_first_fault, reports_of_parts_add_up, written_rows_read_back,
 };
+pub use ordered_rows::laws::stack_texts_are_in_the_order_of_stacks;
 pub use profile_rows::laws::{
     aggregate_has_weights, aggregate_is_by_weights, aggregate_of_its_rows, aggregate_of_more_rows,
     aggregates_of_parts_add_up, batch_of_one_value, kept_rows_are_by_the_aggregate,

@@ -6,10 +6,11 @@
 pub mod laws;
 
 pub use folded_text::{
-    AddedLines, FoldedFault, LineSums, OrderedRows, folded_totals, merge_lines, read_folded,
-    read_folded_with, read_ordered, write_folded, write_stacks,
+    AddedLines, FoldedFault, LineSums, folded_totals, merge_lines, read_folded, read_folded_with,
+    read_ordered, write_folded, write_ordered, write_stacks,
 };
 pub use name_counts::{KnownNames, kept_totals};
+pub use ordered_rows::OrderedRows;
 pub use profile_rows::{
     Batch, FrameTotal, FrameTotals, Hashing, MAX_DEPTH, MAX_TOTAL, MAX_WIDTH, Name, NameFault,
     NoMemory, OwnedRow, PushFault, Refused, Row, Rows, Stack, WeightedStack, WeightedStacks,

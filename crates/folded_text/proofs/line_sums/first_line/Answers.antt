@@ -8,7 +8,7 @@ use Rattle.std.proofs.lemmas.List.Elements.{All-head}
 use Rattle.std.proofs.lemmas.List.Splits.{slice_split_first}
 use Rattle.folded_text.specs.LineSums.{IsFirstLine}
 use Rattle.folded_text.proofs.Lines.{IsFeed, lines-one_line, more_parts}
-use Rattle.folded_text.proofs.Pieces.{first_passing, slice_split-whole}
+use Rattle.ordered_rows.proofs.Pieces.{first_passing, slice_split-whole}
 use Rattle.folded_text.proofs.line_sums.first_line.Goals as goal
 
 cut : (text : List ℕ) (at : ℕ)

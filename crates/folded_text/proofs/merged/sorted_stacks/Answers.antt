@@ -3,8 +3,8 @@ use Rattle.std.proofs.lemmas.Grind.{common_steps}
 use Rattle.std.proofs.Common.{arith}
 use Rattle.std.proofs.lemmas.List.Sorted.{All-permutation}
 use Rattle.profile_rows.specs.StackTexts.{TextState}
-use Rattle.folded_text.specs.TextRows.{IsStackText}
-use Rattle.folded_text.proofs.TextRows.{spelled-moved}
+use Rattle.ordered_rows.specs.SpelledRows.{IsStackText}
+use Rattle.ordered_rows.proofs.SpelledRows.{spelled-moved}
 use Rattle.folded_text.proofs.merged.sorted_stacks.Goals as goal
 
 pub stacks_of_texts-requires-clause-spelled : goal.stacks_of_texts-requires-clause-spelled

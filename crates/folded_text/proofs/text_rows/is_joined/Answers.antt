@@ -1,7 +1,7 @@
 -- A text without empty frames has as many bytes as its frames and the semicolons between them.
 use Rattle.std.proofs.lemmas.Grind.{common_steps}
 use Rattle.std.proofs.Common.{arith, eqb-true}
-use Rattle.folded_text.proofs.TextRows.{IsJoined-measured, frames-within}
+use Rattle.ordered_rows.proofs.SpelledRows.{IsJoined-measured, frames-within}
 use Rattle.folded_text.proofs.text_rows.is_joined.Goals as goal
 
 pub overflow_add-result : goal.overflow_add-result

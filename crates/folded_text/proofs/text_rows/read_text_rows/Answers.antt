@@ -1,6 +1,6 @@
 -- What was read adds up to the rows of the text.
 use Rattle.profile_rows.proofs.MergedRows.{AreMergedSoFar-same}
-use Rattle.folded_text.specs.TextRows.{spelled_rows}
+use Rattle.ordered_rows.specs.SpelledRows.{spelled_rows}
 use Rattle.folded_text.proofs.text_rows.read_text_rows.Goals as goal
 
 pub returns : goal.returns

@@ -1,7 +1,7 @@
 -- The rows so far and the next are within the limit of all.
 use Rattle.std.proofs.lemmas.Grind.{common_steps}
 use Rattle.std.proofs.Common.{arith}
-use Rattle.folded_text.proofs.Waiting.{follows}
+use Rattle.ordered_rows.proofs.SpelledRows.{follows}
 use Rattle.folded_text.proofs.text_rows.stacks_of_texts.Goals as goal
 
 pub push_frames-requires-clause-fits : goal.push_frames-requires-clause-fits

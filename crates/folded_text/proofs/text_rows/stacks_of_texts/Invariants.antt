@@ -1,5 +1,5 @@
 use Rattle.std.proofs.Common.{◌≡◌, take}
-use Rattle.folded_text.specs.TextRows.{spelled_rows}
+use Rattle.ordered_rows.specs.SpelledRows.{spelled_rows}
 use Rattle.folded_text.proofs.text_rows.stacks_of_texts.Given as goal
 
 -- the stacks so far

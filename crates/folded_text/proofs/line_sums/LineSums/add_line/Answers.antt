@@ -2,7 +2,7 @@
 use Rattle.std.proofs.Common.{arith, ap, sym, ◌∙◌}
 use Rattle.std.proofs.lemmas.Result.{err_from_is_err_and}
 use Rattle.profile_rows.specs.Rows.{total_of}
-use Rattle.folded_text.specs.TextRows.{spelled_rows}
+use Rattle.ordered_rows.specs.SpelledRows.{spelled_rows}
 use Rattle.folded_text.proofs.MergedLines.{added_to}
 use Rattle.folded_text.proofs.Reading.{IsLineFault-fitting, IsLineFault-memory, text_one_line}
 use Rattle.folded_text.proofs.line_sums.LineSums.add_line.Goals as goal

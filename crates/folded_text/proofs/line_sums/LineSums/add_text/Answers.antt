@@ -5,7 +5,7 @@ use Rattle.std.specs.Prelude.{string_bytes}
 use Rattle.indexmap.proofs.CallerLemmas.{insert_entry-new}
 use Rattle.profile_rows.proofs.MergedRows.{AddsRow-push}
 use Rattle.folded_text.specs.LineSums.{kept_rows}
-use Rattle.folded_text.specs.TextRows.{rows_with}
+use Rattle.ordered_rows.specs.SpelledRows.{rows_with}
 use Rattle.folded_text.proofs.KeptTexts.{AreKeptTexts-push, lookup-none}
 use Rattle.folded_text.proofs.line_sums.LineSums.add_text.Goals as goal
 

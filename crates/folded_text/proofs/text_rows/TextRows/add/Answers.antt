@@ -1,6 +1,6 @@
 -- The stack text leads to the new row.
 use Rattle.std.proofs.Common.{arith, ◌≡◌, true, sym, ◌∙◌}
-use Rattle.folded_text.specs.StackOrder.{IsJoined}
+use Rattle.ordered_rows.specs.StackOrder.{IsJoined}
 use Rattle.folded_text.proofs.TextRows.{AreKnownTexts-push}
 use Rattle.folded_text.proofs.text_rows.TextRows.add.Goals.{then-self, else-self}
 use Rattle.folded_text.proofs.text_rows.TextRows.add.Goals as goal

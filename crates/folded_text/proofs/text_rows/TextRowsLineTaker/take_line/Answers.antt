@@ -2,7 +2,7 @@
 use Rattle.std.proofs.Common.{◌++◌, ◌∷◌, [], refl}
 use Rattle.std.proofs.lemmas.Result.{MatchResult-weaker}
 use Rattle.profile_rows.proofs.MergedRows.{AreMergedSoFar-row}
-use Rattle.folded_text.specs.TextRows.{spelled_rows}
+use Rattle.ordered_rows.specs.SpelledRows.{spelled_rows}
 use Rattle.folded_text.proofs.text_rows.TextRowsLineTaker.take_line.Goals as goal
 
 pub returns : goal.returns

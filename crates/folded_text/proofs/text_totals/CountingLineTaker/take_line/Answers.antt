@@ -1,7 +1,7 @@
 -- A row more waits, or is counted.
 use Rattle.std.proofs.Common.{◌++◌, ◌∷◌, [], arith, refl}
 use Rattle.profile_rows.proofs.MergedRows.{AddsRow-push, AreMergedSoFar-row}
-use Rattle.folded_text.specs.TextRows.{spelled_rows}
+use Rattle.ordered_rows.specs.SpelledRows.{spelled_rows}
 use Rattle.std.proofs.lemmas.Grind.{common_steps}
 use Rattle.std.proofs.lemmas.Result.{MatchResult-weaker}
 use Rattle.folded_text.proofs.Waiting.{waits}

@@ -1,0 +1,4 @@
+pub mod OrderedRows
+pub mod SpelledRows
+pub mod StackFrames
+pub mod StackOrder

@@ -30,8 +30,8 @@ returns-in_err-sums c =
 
 pub totals_by-requires : goal.totals_by-requires
 totals_by-requires c =
-    ready_to_sum c.args.profile.now c.draft-draft.result.now c.in_ok-frames.frames.now c.args.choice
-    c.in_ok-chosen.chosen c.by_list-samples.result.now c.in_ok-sums.sums.now c.draft-draft.ensures.draft
+    ready_to_sum c.args.profile.now c.draft-draft.result.now c.in_ok-frames.frames c.args.choice
+    c.in_ok-chosen.chosen c.by_list-samples.result c.in_ok-sums.sums c.draft-draft.ensures.draft
     c.draft-draft.ensures.valid c.in_ok-frames.ensures c.in_ok-chosen.ensures c.by_list-samples.ensures
     c.in_ok-sums.ensures
 

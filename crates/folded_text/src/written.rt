@@ -2,7 +2,7 @@
 
 ghost use Rattle.std.specs.Prelude.{◌≡◌, ◌++◌, ◌<◌, ◌≤◌, ◌∷◌, [], All, IfOk, OnOk, length, string_bytes};
 ghost use Rattle.std.specs.Fmt.{decimal};
-ghost use Rattle.folded_text.specs.FoldedText.{IsFoldedBatch, IsTextOf, folded_text_of, row_text};
+ghost use Rattle.folded_text.specs.FoldedText.{IsFoldedBatch, IsTextOf, folded_text_of, row_text, rows_text};
 ghost use Rattle.profile_rows.specs.Limits.{most_frames};
 ghost use Rattle.profile_rows.specs.Names.{IsName};
 ghost use Rattle.profile_rows.specs.Values.{rows_at};
@@ -75,7 +75,8 @@ pub fn write_folded(alloc: Global, batch: &Batch, value: u32) -> Result<Vec<u8>,
 ///
 /// `NoMemory`.
 pub fn write_ordered(alloc: Global, rows: &OrderedRows) -> Result<Vec<u8>, NoMemory>
-    ensures { IfOk result (λ text. text.items ≡ folded_text_of rows.now) }
+    ensures lines { IfOk result (λ text. text.items ≡ rows_text rows.now) }
+    ensures report { IfOk result (λ text. text.items ≡ folded_text_of rows.now) }
 {
     rows.facts();
     let mut text = String::new(alloc);

@@ -8,5 +8,8 @@ use Rattle.folded_text.proofs.written.write_ordered.Goals as goal
 pub loop-at-preserved : goal.loop-at-preserved
 loop-at-preserved c = grind (arith, common_steps, rows_text_more)
 
-pub returns : goal.returns
-returns c = grind (arith, common_steps, rows_of-aggregate)
+pub returns-clause-lines : goal.returns-clause-lines
+returns-clause-lines c = grind (arith, common_steps)
+
+pub returns-clause-report : goal.returns-clause-report
+returns-clause-report c = grind (arith, common_steps, rows_of-aggregate)

@@ -2,13 +2,14 @@
 use Rattle.std.proofs.lemmas.Grind.{common_steps}
 use Rattle.std.proofs.Common.{◌≡◌, ℕ, suc, ◌+◌, ◌<◌, Bool, not, List, [], ◌∷◌, ◌++◌, length}
 use Rattle.std.proofs.Common.{get_or, refl, sym, ap, ◌∙◌, subst, arith, inl, inr, ⊎_elim, ◌⊎◌}
+use Rattle.std.proofs.Common.{length-append, ◌≤◌}
 use Rattle.std.proofs.lemmas.List.{get_or_append_left, get_or_push, length_push}
 use Rattle.std.proofs.lemmas.List.Sums.{sum_by_push}
 use Rattle.std.proofs.lemmas.Bool.{cases_eq}
 use Rattle.profile_rows.specs.declared.weighted_stacks.WeightedStack.{WeightedStack}
 use Rattle.profile_rows.specs.Rows.{has_name, total_of}
 use Rattle.call_tree.specs.declared.node.Node.{Node}
-use Rattle.call_tree.specs.State.{name_at, stack_at}
+use Rattle.call_tree.specs.State.{HasOwnStacks, name_at, stack_at}
 use Rattle.call_tree.specs.Shape.{Link, link_of, no_node, next_stack, stacks_from, node_rows, at}
 use Rattle.call_tree.specs.Shape.{IsTree}
 use Rattle.call_tree.proofs.Shapes.{node_rows-push, row_at-node_rows, length-node_rows, length-stacks_of}
@@ -113,9 +114,50 @@ module _ (names : List (List ℕ)) (nodes : List Node) (parent name : ℕ) (coun
   total_kept = ap total_of node_rows-added
       ∙ omega (arith, sum_by_push (λ (row : WeightedStack). row.weight) (node_rows names nodes) added_row)
 
+  apart_old : (i j : ℕ) → i < length nodes → j < length nodes
+      → stack_at (node_rows names nodes) i ≡ stack_at (node_rows names nodes) j → i ≡ j
+  apart_old i j hi hj e =
+      let size = length-node_rows names nodes in
+      tree.own.apart i j (omega (arith, hi, size)) (omega (arith, hj, size)) e
+
   apart_added : (i j : ℕ)
       → i < length all → j < length all → stack_at (node_rows names all) i ≡ stack_at (node_rows names all) j → i ≡ j
-  apart_added i j hi hj e = grind (arith, common_steps, stack_old, stack_last, cases_of)
+  apart_added i j hi hj e =
+      ⊎_elim
+      (λ i_old.
+      ⊎_elim
+      (λ j_old. apart_old i j i_old j_old (sym (stack_old i i_old) ∙ e ∙ stack_old j j_old))
+      (λ j_last. absurd (fresh i i_old
+      (sym (stack_old i i_old) ∙ e ∙ ap (stack_at (node_rows names all)) j_last ∙ stack_last)))
+      (cases_of j hj))
+      (λ i_last.
+      ⊎_elim
+      (λ j_old. absurd (fresh j j_old
+      (sym (stack_old j j_old) ∙ sym e ∙ ap (stack_at (node_rows names all)) i_last ∙ stack_last)))
+      (λ j_last. i_last ∙ sym j_last)
+      (cases_of j hj))
+      (cases_of i hi)
+
+  deep_added : (k : ℕ) → k < length all → length (stack_at (node_rows names all) k) ≤ 65535
+  deep_added =
+      by_node (λ k. length (stack_at (node_rows names all) k) ≤ 65535)
+      (λ k lt. omega (arith, ap length (stack_old k lt), tree.own.deep k (omega (arith, lt, length-node_rows names nodes))))
+      (omega (
+        arith,
+        ap length stack_last,
+        deep,
+        length-append (stack_at (node_rows names nodes) parent) (name_at names name ∷ []),
+      ))
+
+  own_added : HasOwnStacks (record { names = names; nodes = node_rows names all })
+  own_added =
+      let size = length-node_rows names all in
+      record {
+        apart = λ i j hi hj. apart_added i j (omega (arith, hi, size)) (omega (arith, hj, size));
+        unlike = tree.own.unlike;
+        deep = λ k lt. deep_added k (omega (arith, lt, size));
+        fits = omega (arith, total_kept, tree.own.fits);
+      }
 
   pub IsTree-added : IsTree names (nodes ++ added_node ∷ [])
-  IsTree-added = grind (arith, length_push, at_old, at_last, stack_old, stack_last, by_node, total_kept, apart_added)
+  IsTree-added = grind (arith, length_push, at_old, at_last, stack_old, stack_last, by_node, own_added)

@@ -12,7 +12,7 @@ use Rattle.profile_rows.specs.Merging.{row_at}
 use Rattle.call_tree.specs.declared.node.Node.{Node}
 use Rattle.call_tree.specs.State.{name_at, stack_at}
 use Rattle.call_tree.specs.Shape.{node_rows, at, IsTree}
-use Rattle.call_tree.proofs.Shapes.{stack_at-child, stack_at-root}
+use Rattle.call_tree.proofs.Shapes.{length-node_rows, stack_at-child, stack_at-root}
 
 weight_if_other : (stack : List (List ℕ)) (row : WeightedStack)
     → (row.stack ≡ stack → ⊥) → weight_if (is_same_stack stack) row ≡ 0
@@ -131,7 +131,8 @@ module _ (names : List (List ℕ))
           let shorter = found.longest (at nodes index).parent d (tree.links index pos lt).0 (omega arith) both.0 in
           ⊎_elim
           (λ same. absurd (other
-          (tree.apart (at nodes index).parent slot (omega (arith, (tree.links index pos lt).0)) found.within
+          (tree.own.apart (at nodes index).parent slot (omega (arith, (tree.links index pos lt).0, length-node_rows names nodes))
+          (omega (arith, found.within, length-node_rows names nodes))
           (both.0 ∙ ap (λ n. take n stack) same ∙ sym found.here))
           (omega arith)
           (both.1 ∙ ap (λ n. get_or stack n []) same)))

@@ -66,7 +66,7 @@ module _ (tree named : PlainTree) (seen : List ℕ) (frames : List (List ℕ)) (
       ∙ path.seen_is name
 
   pub there_is : list_any (nat_eq number) seen ≡ has_name (name_at named.names number) (stack_at named.nodes slot)
-  there_is = sym (has_name_numbered-own named.names number seen number_lt below_named state.unlike)
+  there_is = sym (has_name_numbered-own named.names number seen number_lt below_named state.own.unlike)
       ∙ seen_now (name_at named.names number)
       ∙ ap (has_name (name_at named.names number)) (sym stack_now)
 

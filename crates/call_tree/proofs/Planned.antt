@@ -40,6 +40,9 @@ module _ (before now : PlainTree) (value : ℕ) (rows : List Row) (slots : List 
   here : row_at (rows_at value rows) i ≡ weighing value (row_in rows i)
   here = row_is value rows i lt
 
+  row_stack : stack_at before.nodes slot ≡ (row_in rows i).stack
+  row_stack = (are.each i lt).stack ∙ ap (λ (row : WeightedStack). row.stack) (row_is 0 rows i lt)
+
   pub credit_within : slot_at slots i < length now.nodes
   credit_within = omega (arith, (are.each i lt).within, done.size)
 
@@ -63,7 +66,7 @@ module _ (before now : PlainTree) (value : ℕ) (rows : List Row) (slots : List 
         omega (arith, new, part, weight_of_row, done.total);
     weights =
         let row_now : (record { stack = stack_at now.nodes slot; weight = weight }) ≡ row_at (rows_at value rows) i =
-        (λ j. record { stack = (done.stacks slot ∙ (are.each i lt).stack) j; weight = weight_is j }) ∙ sym here in
+        (λ j. record { stack = (done.stacks slot ∙ row_stack) j; weight = weight_is j }) ∙ sym here in
         ap aggregate_of nodes ∙ aggregate_of-credited now.nodes slot weight credit_within
         ∙ ap (λ m. with_row m (record { stack = stack_at now.nodes slot; weight = weight })) done.weights
         ∙ ap (with_row (with_rows (aggregate_of before.nodes) (take i (rows_at value rows)))) row_now

@@ -9,7 +9,7 @@ use Rattle.profile_rows.specs.declared.weighted_stacks.WeightedStack.{WeightedSt
 use Rattle.profile_rows.specs.Rows.{total_of}
 use Rattle.profile_rows.specs.Merging.{no_row, row_at, with_added_at}
 use Rattle.call_tree.specs.declared.node.Node.{Node}
-use Rattle.call_tree.specs.State.{stack_at}
+use Rattle.call_tree.specs.State.{HasOwnStacks, stack_at}
 use Rattle.call_tree.specs.Shape.{node_rows, at, IsTree}
 use Rattle.call_tree.specs.Nodes.{with_weight, without_weight}
 use Rattle.call_tree.proofs.Crediting.{stack_at-credited, total_of-credited}
@@ -41,8 +41,19 @@ module _ (names : List (List ℕ)) (old : List Node) (start w : ℕ) (tree : IsT
   stack_done : (k : ℕ) → stack_at (node_rows names done) k ≡ stack_at (node_rows names old) k
   stack_done k = ap (λ rows. stack_at rows k) rows_done ∙ stack_at-credited (node_rows names old) start w k rows_lt
 
+  own_done : HasOwnStacks (record { names = names; nodes = node_rows names done })
+  own_done =
+      let size = length-node_rows names done ∙ length-done ∙ sym (length-node_rows names old) in
+      record {
+        apart = λ i j hi hj e. tree.own.apart i j (omega (arith, hi, size)) (omega (arith, hj, size))
+            (sym (stack_done i) ∙ e ∙ stack_done j);
+        unlike = tree.own.unlike;
+        deep = λ k hk. omega (arith, ap length (stack_done k), tree.own.deep k (omega (arith, hk, size)));
+        fits = omega (arith, whole_done, fits);
+      }
+
   IsTree-done : IsTree names done
-  IsTree-done = grind (arith, common_steps, length-done, framed, whole_done, stack_done)
+  IsTree-done = grind (arith, common_steps, length-done, framed, stack_done, own_done)
 
 -- ---- the same, as the code reads and writes
 

@@ -147,7 +147,7 @@ module _ (names : List (List ℕ)) (nodes : List Node) (tree : IsTree names node
       (λ k pos h. let low = tree.links k pos h in
       (λ i. cond ((ap (ends_with_name (name_at names n)) (stack_at-child names nodes k pos h low.0)
       ∙ ends_with_name-push (name_at names n) (stack_at (node_rows names nodes) (at nodes k).parent) (name_at names
-      (at nodes k).name) ∙ same_number names n (at nodes k).name lt low.1 tree.unlike) i) (own_is k i) 0))
+      (at nodes k).name) ∙ same_number names n (at nodes k).name lt low.1 tree.own.unlike) i) (own_is k i) 0))
 
   part_le : (b : Bool) (x : ℕ) → cond b x 0 ≤ x
   part_le true x = omega arith
@@ -238,7 +238,7 @@ module _ (names : List (List ℕ)) (nodes : List Node) (tree : IsTree names node
         let here : own_if node.name node ≡ node.own = ap (λ b. cond b node.own 0) (eq-eqb node.name node.name refl) in
         let le = sum_by-le-sum_by (own_if node.name)
         (λ (node : Node). node.own) nodes (λ other. part_le (nat_eq node.name other.name) other.own) in
-        omega (arith, f, more, here, le, total_of-own, tree.fits)
+        omega (arith, f, more, here, le, total_of-own, tree.own.fits)
 
     -- the stack of the node has a name where its parent's has it, or it is the node's
     has_is : (name : List ℕ) → has_name name (stack_at (node_rows names nodes) k)
@@ -259,7 +259,7 @@ module _ (names : List (List ℕ)) (nodes : List Node) (tree : IsTree names node
         λ i. cond (counts i && is_same_name-self name i) weight 0 in
         let le = sum_by-le-sum_by (weight_if (has_name name)) (λ (row : WeightedStack). row.weight)
         (node_rows names nodes) (λ row. part_le (has_name name row.stack) row.weight) in
-        omega (arith, c, last, counted name, here, le, tree.fits)
+        omega (arith, c, last, counted name, here, le, tree.own.fits)
 
     -- ---- the node's weight added to its parent's, and to the sums of its name
 
@@ -277,7 +277,7 @@ module _ (names : List (List ℕ)) (nodes : List Node) (tree : IsTree names node
       within = omega (arith, lt, so_far.wide);
       parent = omega (arith, links.0, lt, so_far.wide);
       name = omega (arith, links.1, so_far.size);
-      whole = omega (arith, whole_is, tree.fits);
+      whole = omega (arith, whole_is, tree.own.fits);
       held = parent_fits;
       flat = flat_fits;
       cum = cum_fits;
@@ -317,7 +317,7 @@ module _ (names : List (List ℕ)) (nodes : List Node) (tree : IsTree names node
               let last = with_last (has_name name) in
               let old = so_far.cum n n_lt in
               let rest = ap (weight_where (has_name name)) rows_are ∙ next_where (has_name name) in
-              let number = same_number names n node.name n_lt links.1 tree.unlike in
+              let number = same_number names n node.name n_lt links.1 tree.own.unlike in
               let split = counted name ∙ ap (λ b. cond (node.counts && b) weight 0 + cond
               (has_name name (stack_at (node_rows names nodes) node.parent)) weight 0) number in
               ⊎_elim

@@ -74,10 +74,10 @@ AreStackTexts-nodes tree texts is all = record {
   named = all.named;
   deep = All-filter has_weight (λ (row : WeightedStack). length row.stack ≤ 65535) tree.nodes (λ k d lt.
       let here = ap (λ (row : WeightedStack). row.stack) (get_or_default tree.nodes k d no_row lt) in
-      let deep = is.deep k lt in
+      let deep = is.own.deep k lt in
       omega (arith, deep, ap length here));
   fits =
       let total = weight_where-same (λ stack. true) (filter has_weight tree.nodes) tree.nodes
       (aggregate_of-weighty tree.nodes) in
-      omega (arith, total, is.fits);
+      omega (arith, total, is.own.fits);
 }

@@ -47,7 +47,7 @@ module _ (tree : TreeState) (states : AreStates tree) where
       let is : stack_at rows slot ≡ stack = states.stacks value slot lt ∙ here in
       weight_in-aggregate_of rows stack
       ∙ weight_of-at rows stack slot (omega (arith, size, within)) is
-      (λ j j_lt e. (states.each value lt).apart j slot j_lt (omega (arith, size, within)) (e ∙ sym is))
+      (λ j j_lt e. (states.each value lt).own.apart j slot j_lt (omega (arith, size, within)) (e ∙ sym is))
 
   pub weight_in-nowhere : (stack : List (List ℕ))
       → ((k : ℕ) → k < length (nodes_at tree 0) → stack_at (nodes_at tree 0) k ≡ stack → ⊥)

@@ -4,7 +4,7 @@ use Rattle.profile_rows.specs.declared.weighted_stacks.WeightedStack.{WeightedSt
 use Rattle.profile_rows.specs.Limits.{most_frames}
 use Rattle.profile_rows.specs.Rows.{has_name, total_of}
 use Rattle.call_tree.specs.declared.node.Node.{Node}
-use Rattle.call_tree.specs.State.{name_at, stack_at}
+use Rattle.call_tree.specs.State.{HasOwnStacks, name_at, stack_at}
 
 -- where a node stands in the tree: its parent and its name's number
 pub record Link : Type 0 where
@@ -50,8 +50,4 @@ pub record IsTree (names : List (List ℕ)) (nodes : List Node) : Type 0 where
   pub counts : (k : ℕ) → 0 < k → k < length nodes
       → (at nodes k).counts
       ≡ not (has_name (name_at names (at nodes k).name) (stack_at (node_rows names nodes) (at nodes k).parent))
-  pub deep : (k : ℕ) → k < length nodes → length (stack_at (node_rows names nodes) k) ≤ most_frames
-  pub apart : (i j : ℕ) → i < length nodes → j < length nodes
-      → stack_at (node_rows names nodes) i ≡ stack_at (node_rows names nodes) j → i ≡ j
-  pub unlike : (i j : ℕ) → i < length names → j < length names → name_at names i ≡ name_at names j → i ≡ j
-  pub fits : total_of (node_rows names nodes) < 2 ^ 63
+  pub own : HasOwnStacks (record { names = names; nodes = node_rows names nodes })

@@ -53,21 +53,25 @@ pub record HasParent (tree : PlainTree) (stack : List (List ℕ)) (name : List �
   pub parent_stack : stack_at tree.nodes parent ≡ stack
   pub name_is : name_at tree.names number ≡ name
 
--- what every tree keeps true by each value: the root has the empty stack, no two nodes have one stack and no two
--- numbers one name, and a node's parent is a node
-pub record IsState (tree : PlainTree) : Type 0 where
-  pub rooted : 0 < length tree.nodes
-  pub root : stack_at tree.nodes 0 ≡ []
+-- each stack has one node and each name one number, within the limits of frames and of weights
+pub record HasOwnStacks (tree : PlainTree) : Type 0 where
   pub apart : (i j : ℕ) → i < length tree.nodes → j < length tree.nodes
       → stack_at tree.nodes i ≡ stack_at tree.nodes j
       → i ≡ j
   pub unlike : (i j : ℕ) → i < length tree.names → j < length tree.names
       → name_at tree.names i ≡ name_at tree.names j
       → i ≡ j
-  pub closed : (k : ℕ) (stack : List (List ℕ)) (name : List ℕ) → k < length tree.nodes
-      → stack_at tree.nodes k ≡ stack ++ name ∷ [] → HasParent tree stack name
   pub deep : (k : ℕ) → k < length tree.nodes → length (stack_at tree.nodes k) ≤ most_frames
   pub fits : total_of tree.nodes < 2 ^ 63
+
+-- what every tree keeps true by each value: the root has the empty stack, no two nodes have one stack and no two
+-- numbers one name, and a node's parent is a node
+pub record IsState (tree : PlainTree) : Type 0 where
+  pub rooted : 0 < length tree.nodes
+  pub root : stack_at tree.nodes 0 ≡ []
+  pub closed : (k : ℕ) (stack : List (List ℕ)) (name : List ℕ) → k < length tree.nodes
+      → stack_at tree.nodes k ≡ stack ++ name ∷ [] → HasParent tree stack name
+  pub own : HasOwnStacks tree
 
 -- what every tree keeps true: there is a value, and by each value the nodes are the same but for their weights
 pub record AreStates (tree : TreeState) : Type 0 where

@@ -21,16 +21,17 @@ use Rattle.profile_rows.specs.Rows.{stack_cmp}
 use Rattle.profile_rows.specs.Aggregate.{AreWeighty, IsAscending}
 use Rattle.profile_rows.proofs.Members.{Rises, same_members, in_order-Rises, member-in_order}
 use Rattle.profile_rows.proofs.RowLaws.{stack_cmp_total, stack_cmp_apart}
-use Rattle.flame_report.specs.Sharing.{known_at, stack_in}
+use Rattle.call_tree.specs.State.{stack_at}
+use Rattle.flame_report.specs.Sharing.{known_at}
 use Rattle.flame_report.proofs.PathOrder.{Path, begins, before_new, prefix_shared, take_begins_with, turned, take_less}
 use Rattle.flame_report.proofs.Pairs.{AllPairs-head, AllPairs-tail, AllPairs-append}
 use Rattle.flame_report.proofs.Prefixes.{drop-prefixes}
-use Rattle.flame_report.proofs.RowSums.{in_order as rows_in_order, new_path-first, stack_in-get}
+use Rattle.flame_report.proofs.RowSums.{in_order as rows_in_order, new_path-first, stack_at-get}
 
 -- the paths of the rows before an index, each where it first comes
 abbrev pub paths_until : List WeightedStack → ℕ → List Path
 paths_until rows zero = []
-paths_until rows (suc n) = paths_until rows n ++ drop (known_at rows n) (prefixes (stack_in rows n))
+paths_until rows (suc n) = paths_until rows n ++ drop (known_at rows n) (prefixes (stack_at rows n))
 
 -- whether a path is among these
 abbrev is_among : Path → List Path → Bool
@@ -62,13 +63,13 @@ abbrev pub begins_row : Path → WeightedStack → Bool
 begins_row q row = begins q row.stack
 
 -- what begins a row and isn't new begins the row before
-known_before : (rows : List WeightedStack) (n : ℕ) (q : Path) → n < length rows → begins q (stack_in rows n) ≡ true
+known_before : (rows : List WeightedStack) (n : ℕ) (q : Path) → n < length rows → begins q (stack_at rows n) ≡ true
     → length q < known_at rows n → list_any (begins_row q) (take n rows) ≡ true
 known_before rows zero q h a short = absurd (omega arith)
 known_before rows (suc n) q h a short =
     let d : WeightedStack = record { stack = []; weight = 0 } in
-    let part = prefix_shared q (stack_in rows n) (stack_in rows (suc n)) (omega arith) in
-    grind (arith, common_steps, stack_in-get rows n d, list_any_at (begins_row q) (take (suc n) rows) n d)
+    let part = prefix_shared q (stack_at rows n) (stack_at rows (suc n)) (omega arith) in
+    grind (arith, common_steps, stack_at-get rows n d, list_any_at (begins_row q) (take (suc n) rows) n d)
 
 among-until : (rows : List WeightedStack) (n : ℕ) (q : Path)
     → n ≤ length rows → is_among q (paths_until rows n) ≡ list_any (begins_row q) (take n rows)
@@ -77,7 +78,7 @@ among-until rows (suc n) q h =
     let d : WeightedStack = record { stack = []; weight = 0 } in
     let known = known_before rows n q (omega arith) in
     let more : take (suc n) rows ≡ take n rows ++ get_or rows n d ∷ [] = take-suc rows n d (omega arith) in
-    grind (arith, list_any-append, among-new, stack_in-get rows n d, among-until rows n q (omega arith))
+    grind (arith, list_any-append, among-new, stack_at-get rows n d, among-until rows n q (omega arith))
 
 pub among-all : (q : Path) (rows : List WeightedStack)
     → is_among q (flat_map (λ row. prefixes row.stack) rows) ≡ list_any (begins_row q) rows
@@ -96,24 +97,24 @@ rises_from_pairs (p ∷ ps) up =
 
 -- the paths so far begin earlier rows
 begins_earlier : (rows : List WeightedStack) (n : ℕ) (q : Path) → n ≤ length rows
-    → is_among q (paths_until rows n) ≡ true → (j : ℕ) × (j < n) × (begins q (stack_in rows j) ≡ true)
+    → is_among q (paths_until rows n) ≡ true → (j : ℕ) × (j < n) × (begins q (stack_at rows j) ≡ true)
 begins_earlier rows n q h found =
-    grind (arith, common_steps, get_or-take, length-take-le, Any-from_list_any, stack_in-get, among-until)
+    grind (arith, common_steps, get_or-take, length-take-le, Any-from_list_any, stack_at-get, among-until)
 
 until-rises : (rows : List WeightedStack) (n : ℕ)
     → IsAscending rows → n ≤ length rows → AllPairs IsBefore (paths_until rows n)
 until-rises rows zero up h = λ i j d low high. absurd (omega arith)
 until-rises rows (suc n) up h =
-    let new = drop-prefixes (stack_in rows n) (known_at rows n) in
-    AllPairs-append IsBefore (paths_until rows n) (drop (known_at rows n) (prefixes (stack_in rows n)))
+    let new = drop-prefixes (stack_at rows n) (known_at rows n) in
+    AllPairs-append IsBefore (paths_until rows n) (drop (known_at rows n) (prefixes (stack_at rows n)))
     (until-rises rows n up (omega arith))
     (λ i j d low high. rw ((new i d (omega arith)).1, (new j d high).1)
-    (take_less (known_at rows n + i) (known_at rows n + j) (stack_in rows n) (omega arith) ((new j d high).0)))
+    (take_less (known_at rows n + i) (known_at rows n + j) (stack_at rows n) (omega arith) ((new j d high).0)))
     (All-from_any (eq_by_cmp_equiv stack_cmp_total)
-    (λ p. All (IsBefore p) (drop (known_at rows n) (prefixes (stack_in rows n)))) (paths_until rows n) (λ p found j d l.
+    (λ p. All (IsBefore p) (drop (known_at rows n) (prefixes (stack_at rows n)))) (paths_until rows n) (λ p found j d l.
     let (k, below, begun) = begins_earlier rows n p (omega arith) found in
-    rw ((new j d l).1) (before_new p (take (known_at rows n + j) (stack_in rows n)) (stack_in rows k) (stack_in rows n)
-    begun (rows_in_order rows k n up below (omega arith)) (take_begins_with (known_at rows n + j) (stack_in rows n))
+    rw ((new j d l).1) (before_new p (take (known_at rows n + j) (stack_at rows n)) (stack_at rows k) (stack_at rows n)
+    begun (rows_in_order rows k n up below (omega arith)) (take_begins_with (known_at rows n + j) (stack_at rows n))
     (new_path-first rows n (known_at rows n + j) up (omega arith) (omega arith) ((new j d l).0) k below))))
 
 weighty : (rows : List WeightedStack) → AreWeighty rows → filter (λ row. nat_lt 0 row.weight) rows ≡ rows

@@ -9,13 +9,10 @@ use Rattle.profile_rows.specs.Names.{name_cmp}
 use Rattle.profile_rows.specs.Paths.{begins_with}
 use Rattle.profile_rows.specs.Aggregate.{AreWeighty, IsAscending}
 use Rattle.profile_rows.specs.Rows.{total_of, weight_where}
+use Rattle.call_tree.specs.State.{stack_at}
 use Rattle.flame_report.specs.declared.layout.Plan.{Plan}
 use Rattle.flame_report.specs.declared.layout.Shape.{Shape}
 use Rattle.flame_report.specs.declared.layout.Span.{Span}
-
--- the stack of the row at an index
-abbrev pub stack_in : List WeightedStack → ℕ → List (List ℕ)
-stack_in rows k = slice_index_or (map (λ row. row.stack) rows) k []
 
 -- how many paths two stacks have in common: the empty one, and one for each common name
 abbrev pub shared_paths : List (List ℕ) → List (List ℕ) → ℕ
@@ -24,11 +21,11 @@ shared_paths before stack = common_prefix_len (eq_by_cmp name_cmp) before stack 
 -- how many of the paths of the row at an index the row before has too
 abbrev pub known_at : List WeightedStack → ℕ → ℕ
 known_at rows zero = 0
-known_at rows (suc k) = shared_paths (stack_in rows k) (stack_in rows (suc k))
+known_at rows (suc k) = shared_paths (stack_at rows k) (stack_at rows (suc k))
 
 -- how many paths of the row at an index the row before has too, and how many names its stack has
 abbrev pub shape_of : List WeightedStack → ℕ → Shape
-shape_of rows k = record { known = known_at rows k; depth = length (stack_in rows k) }
+shape_of rows k = record { known = known_at rows k; depth = length (stack_at rows k) }
 
 -- the shape of each row
 pub record AreShapes (shapes : List Shape) (rows : List WeightedStack) : Type 0 where
@@ -49,9 +46,9 @@ held_weight rows n path = weight_where (λ stack. begins_with name_cmp stack pat
 -- for each path of the last row before an index, the weight of the rows before it that are prefixes of it
 abbrev pub AreHeld : List ℕ → List WeightedStack → ℕ → Type 0
 AreHeld held rows zero = ⊤
-AreHeld held rows (suc n) = (length held ≡ length (stack_in rows n) + 1)
-    × ((e : ℕ) → e ≤ length (stack_in rows n)
-    → slice_index_or held e 0 ≡ held_weight rows (suc n) (take e (stack_in rows n)))
+AreHeld held rows (suc n) = (length held ≡ length (stack_at rows n) + 1)
+    × ((e : ℕ) → e ≤ length (stack_at rows n)
+    → slice_index_or held e 0 ≡ held_weight rows (suc n) (take e (stack_at rows n)))
 
 -- the rectangles of these paths that are wide enough
 abbrev pub shown_of : ℕ → List WeightedStack → List (List (List ℕ)) → List Rectangle

@@ -11,7 +11,8 @@ ghost use Rattle.profile_rows.specs.Paths.{begins_with, path_weight, prefixes};
 ghost use Rattle.profile_rows.specs.Rows.{total_of};
 ghost use Rattle.flame_report.specs.Answers.{flame_of, rect_of};
 ghost use Rattle.flame_report.specs.Sharing.{AreHeld, AreShapes, IsPlan, held_weight, known_at, shape_of, shown_of};
-ghost use Rattle.flame_report.specs.Sharing.{span_of, stack_in};
+ghost use Rattle.call_tree.specs.State.{stack_at};
+ghost use Rattle.flame_report.specs.Sharing.{span_of};
 
 use crate::answer::{Flame, Label, Rect};
 use crate::query::Columns;
@@ -135,10 +136,10 @@ impl<'a> Plan<'a> {
     fn group_weight(&self, at: usize, depth: usize) -> u64
         requires plan { IsPlan self.now }
         requires at { at < length self.now.rows.now }
-        requires depth { depth ≤ length (stack_in self.now.rows.now at) }
+        requires depth { depth ≤ length (stack_at self.now.rows.now at) }
         requires first { (k : ℕ) → k < at → begins_with name_cmp
-            (take depth (stack_in self.now.rows.now at)) (stack_in self.now.rows.now k) ≡ false }
-        ensures { result ≡ path_weight self.now.rows.now (take depth (stack_in self.now.rows.now at)) }
+            (take depth (stack_at self.now.rows.now at)) (stack_at self.now.rows.now k) ≡ false }
+        ensures { result ≡ path_weight self.now.rows.now (take depth (stack_at self.now.rows.now at)) }
     {
         let mut weight = self.rows.weight(at);
         for next in at + 1..self.rows.len() {
@@ -155,11 +156,11 @@ impl<'a> Plan<'a> {
         requires plan { IsPlan self.now }
         requires at { at < length self.now.rows.now }
         requires new { known_at self.now.rows.now at ≤ depth }
-        requires depth { depth ≤ length (stack_in self.now.rows.now at) }
-        requires start { start + held_weight self.now.rows.now at (stack_in self.now.rows.now at)
+        requires depth { depth ≤ length (stack_at self.now.rows.now at) }
+        requires start { start + held_weight self.now.rows.now at (stack_at self.now.rows.now at)
             ≡ total_of (take at self.now.rows.now) }
         ensures { result ≡ span_of
-            (rectangle_at self.now.columns self.now.rows.now (take depth (stack_in self.now.rows.now at))) }
+            (rectangle_at self.now.columns self.now.rows.now (take depth (stack_at self.now.rows.now at))) }
     {
         let weight = self.group_weight(at, depth);
         Span {
@@ -181,11 +182,11 @@ impl<'a> Plan<'a> {
     ) -> Result<(), NoMemory>
         requires plan { IsPlan self.now }
         requires at { at < length self.now.rows.now }
-        requires start { start + held_weight self.now.rows.now at (stack_in self.now.rows.now at)
+        requires start { start + held_weight self.now.rows.now at (stack_at self.now.rows.now at)
             ≡ total_of (take at self.now.rows.now) }
         ensures { OnOk result (drawing.new.rects.items ≡ drawing.old.rects.items
             ++ map rect_of (shown_of self.now.columns self.now.rows.now
-            (drop (known_at self.now.rows.now at) (prefixes (stack_in self.now.rows.now at))))) }
+            (drop (known_at self.now.rows.now at) (prefixes (stack_at self.now.rows.now at))))) }
     {
         let known = self.shape(at).known;
         let shortest = self.span_at(at, known, start);
@@ -209,7 +210,7 @@ impl<'a> Plan<'a> {
         requires plan { IsPlan self.now }
         requires at { at < length self.now.rows.now }
         requires held { AreHeld held.now self.now.rows.now at }
-        ensures { result ≡ held_weight self.now.rows.now at (stack_in self.now.rows.now at) }
+        ensures { result ≡ held_weight self.now.rows.now at (stack_at self.now.rows.now at) }
     {
         let known = self.shape(at).known;
         if known == 0 { 0 } else { held[known - 1] }
@@ -220,7 +221,7 @@ impl<'a> Plan<'a> {
         requires plan { IsPlan self.now }
         requires at { at < length self.now.rows.now }
         requires held { AreHeld held.old.items self.now.rows.now at }
-        requires above { above ≡ held_weight self.now.rows.now at (stack_in self.now.rows.now at) }
+        requires above { above ≡ held_weight self.now.rows.now at (stack_at self.now.rows.now at) }
         ensures { OnOk result (AreHeld held.new.items self.now.rows.now (at + 1)) }
     {
         let Shape { known, depth } = self.shape(at);

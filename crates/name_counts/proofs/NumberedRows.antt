@@ -22,10 +22,10 @@ use Rattle.profile_rows.specs.declared.weighted_stacks.WeightedStack.{WeightedSt
 use Rattle.profile_rows.specs.Names.{IsName}
 use Rattle.name_counts.specs.Tallies.{AreSingle, AreTalliesOf, IsNumberedStack, IsTallyOf}
 use Rattle.name_counts.specs.Tallies.{tally_at, tally_of}
-use Rattle.name_counts.specs.TextTables.{names_at, number_in, with_text, with_texts}
+use Rattle.name_counts.specs.TextTables.{names_at, no_text, number_in, with_text, with_texts}
 use Rattle.name_counts.specs.NumberedRows.{IsNumberOfText}
 use Rattle.name_counts.proofs.TallyLaws.{zero_tally}
-use Rattle.name_counts.proofs.TextNumbers.{any_push, no_text, number_in-kept, number_in-lt, shown_at, text_of}
+use Rattle.name_counts.proofs.TextNumbers.{any_push, number_in-kept, number_in-lt, shown_at, text_of}
 use Rattle.name_counts.proofs.TextNumbers.{there_inside}
 use Rattle.name_counts.proofs.TextNumbers.{text_of_number, with_text-there}
 use Rattle.profile_rows.proofs.SameNames.{is_same_name-self, same_from_is_same_name}

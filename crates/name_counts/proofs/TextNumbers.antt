@@ -11,7 +11,7 @@ use Rattle.std.proofs.lemmas.Bool.{false≢true}
 use Rattle.std.proofs.lemmas.List.{take_more, length-map, map-append}
 use denote.Ref.{Bor}
 use mathlib.Core.Bool.{or-false}
-use Rattle.name_counts.specs.TextTables.{number_in, with_text, with_texts}
+use Rattle.name_counts.specs.TextTables.{no_text, number_in, with_text, with_texts}
 use Rattle.profile_rows.proofs.Members.{list_any-map}
 use Rattle.profile_rows.proofs.SameNames.{same_from_is_same_name, is_same_name-self}
 
@@ -117,10 +117,6 @@ shown_at (first ∷ items) (suc k) item = shown_at items k item
 -- the text that is lent
 abbrev pub text_of : Bor (List ℕ) → List ℕ
 text_of lent = lent.now
-
--- what stands past the end
-abbrev pub no_text : Bor (List ℕ)
-no_text = record { ref_ptr = (0, 0); now = [] }
 
 pub next_text : (items : List (Bor (List ℕ))) (texts : List (List ℕ)) (k : ℕ)
     → map (λ (text : Bor (List ℕ)). text.now) items ≡ texts → k < length items

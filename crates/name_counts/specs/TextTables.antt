@@ -14,9 +14,13 @@ number_in (first ∷ texts) text = if bytes_eq text first then 0 else number_in 
 abbrev pub names_at : List (List ℕ) → List ℕ → List (List ℕ)
 names_at texts numbers = map (λ number. slice_index_or texts number []) numbers
 
+-- what stands past the end of texts that are lent
+abbrev pub no_text : Bor (List ℕ)
+no_text = record { ref_ptr = (0, 0); now = [] }
+
 -- the text of a number, of texts that are lent
 abbrev pub lent_at : List (Bor (List ℕ)) → ℕ → List ℕ
-lent_at texts number = (slice_index_or texts number (record { ref_ptr = (0, 0); now = [] })).now
+lent_at texts number = (slice_index_or texts number no_text).now
 
 -- a text that is there isn't added again
 abbrev pub with_text : List (List ℕ) → List ℕ → List (List ℕ)

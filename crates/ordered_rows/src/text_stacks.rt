@@ -14,7 +14,7 @@ use crate::stack_frames::Frames;
 use crate::text_row::TextRow;
 use basics::NoMemory;
 use name_counts::CountedRows;
-use profile_rows::{FrameTotals, Hashing, Name, StackText};
+use profile_rows::{FrameTotals, HasFrames, Hashing, Name, StackText, keeps};
 use std::alloc::Global;
 use std::marker::Model;
 
@@ -40,7 +40,7 @@ impl<'a> Model for TextStacks<'a> {
 }
 
 /// Whether a stack text has a frame of this name.
-fn has_frame(text: &str, name: &Name) -> bool
+fn text_has_frame(text: &str, name: &Name) -> bool
     ensures { result ≡ has_name name.now (frames_of text.now) }
 {
     let mut frames = Frames::of(text);
@@ -52,12 +52,12 @@ fn has_frame(text: &str, name: &Name) -> bool
     false
 }
 
-/// Whether a stack text has the focus, where there is one, and not the ignored name, where there is one.
-fn keeps(text: &str, focus: Option<&Name>, ignored: Option<&Name>) -> bool
-    ensures { result ≡ is_kept (option_copied focus.entry) (option_copied ignored.entry) (frames_of text.now) }
-{
-    focus.is_none_or(|name| has_frame(text, name))
-        && ignored.is_none_or(|name| !has_frame(text, name))
+impl<'a> HasFrames for TextRow<'a> {
+    ghost frames = { λ row. frames_of row.text };
+
+    fn has_frame(&self, name: &Name) -> bool {
+        text_has_frame(self.text(), name)
+    }
 }
 
 /// Takes out the rows without the focus and those with the ignored name.
@@ -66,7 +66,7 @@ fn keep_rows(rows: &mut Vec<TextRow>, focus: Option<&Name>, ignored: Option<&Nam
         ≡ filter (λ row. is_kept (option_copied focus.entry) (option_copied ignored.entry) (frames_of row.text))
         rows.old.items }
 {
-    rows.retain(|row| keeps(row.text(), focus, ignored));
+    rows.retain(|row| keeps(row, focus, ignored));
 }
 
 /// What rows weigh together.

@@ -23,7 +23,7 @@ pub use batch::{Batch, OwnedRow, Row};
 pub use batch_rows::Rows;
 pub use frame_totals::{FrameTotal, FrameTotals};
 pub use hashing::Hashing;
-pub use keeping::keeps;
+pub use keeping::{HasFrames, keeps};
 pub use name::{Name, NameFault};
 pub use stack::{MAX_DEPTH, Stack};
 pub use stack_texts::{AsName, StackText, push_joined};

@@ -111,6 +111,7 @@ pub use stack_text::BatchFault;
 pub use stack_text::FoldedFault;
 pub use stack_text::FrameTotal;
 pub use stack_text::FrameTotals;
+pub use stack_text::HasFrames;
 pub use stack_text::Hashing;
 pub use stack_text::KnownNames;
 pub use stack_text::LineSums;

@@ -12,9 +12,9 @@ pub use folded_text::{
 pub use name_counts::{KnownNames, kept_totals};
 pub use ordered_rows::OrderedRows;
 pub use profile_rows::{
-    Batch, FrameTotal, FrameTotals, Hashing, MAX_DEPTH, MAX_TOTAL, MAX_WIDTH, Name, NameFault,
-    NoMemory, OwnedRow, PushFault, Refused, Row, Rows, Stack, WeightedStack, WeightedStacks,
-    Weights, Width, aggregate, first_heavy, keeps,
+    Batch, FrameTotal, FrameTotals, HasFrames, Hashing, MAX_DEPTH, MAX_TOTAL, MAX_WIDTH, Name,
+    NameFault, NoMemory, OwnedRow, PushFault, Refused, Row, Rows, Stack, WeightedStack,
+    WeightedStacks, Weights, Width, aggregate, first_heavy, keeps,
 };
 pub use profile_samples::{
     BatchFault, ValueChoice, ValueUnit, batch_of, batch_of_with, export_folded, merge_samples,

@@ -10,7 +10,7 @@ use Rattle.std.proofs.lemmas.List.Sums.{common_prefix_len-le}
 use Rattle.name_counts.proofs.CommonPrefix.{pairs_alike}
 use Rattle.name_counts.proofs.TextNumbers.{text_of}
 use Rattle.profile_rows.specs.Names.{name_cmp}
-use Rattle.flame_report.proofs.RowSums.{stack_in-get, known_at-back}
+use Rattle.flame_report.proofs.RowSums.{stack_at-get, known_at-back}
 use Rattle.flame_report.proofs.layout.shapes_of.Goals as goal
 
 -- frames share what their texts do
@@ -32,4 +32,4 @@ pub loop-at-preserved : goal.loop-at-preserved
 loop-at-preserved c =
     let count = shared_texts c.deref.result.now c.deref-in-loop-at.result.now
     c.shared-shared.result c.shared-shared.ensures in
-    grind (arith, common_steps, text_of, count, stack_in-get, known_at-back)
+    grind (arith, common_steps, text_of, count, stack_at-get, known_at-back)

@@ -5,11 +5,12 @@ use Rattle.std.proofs.lemmas.List.{get_or_default, length-map, take_all}
 use Rattle.std.proofs.lemmas.Slice.Zip.{length-zip}
 use Rattle.std.specs.declared.vec.Vec.{Vec}
 use denote.Ref.{Bor}
+use Rattle.name_counts.specs.TextTables.{no_text}
 use Rattle.name_counts.specs.declared.tallies.Tally.{Tally}
 use Rattle.profile_rows.specs.Names.{IsName}
 use Rattle.name_counts.specs.Tallies.{tally_at}
 use Rattle.name_counts.proofs.TallyLaws.{zero_tally}
-use Rattle.name_counts.proofs.TextNumbers.{no_text, shown_at}
+use Rattle.name_counts.proofs.TextNumbers.{shown_at}
 use Rattle.name_counts.proofs.Weighted.{number_named, shown-AreSumsOf, weighted_in, weightless_more, weighty_more}
 use Rattle.name_counts.proofs.tallies.weighted.Goals as goal
 use Rattle.name_counts.proofs.tallies.weighted.Goals.{then-tally-gt0+in_ok-keep+in_ok-push, else-tally-gt0}

@@ -8,10 +8,10 @@ use Rattle.std.specs.List.{common_prefix_len, take_while, zip}
 use Rattle.std.specs.Str.{bytes_eq}
 use denote.Ref.{Bor}
 use Rattle.name_counts.specs.NumberedRows.{IsNumberOfText, NumberedFrames}
-use Rattle.name_counts.specs.TextTables.{lent_at, names_at, with_texts}
+use Rattle.name_counts.specs.TextTables.{lent_at, names_at, no_text, with_texts}
 use Rattle.name_counts.proofs.NumberedRows.{are_known, shared_same}
 use Rattle.name_counts.proofs.CommonPrefix.{pairs_alike}
-use Rattle.name_counts.proofs.TextNumbers.{no_text, shown_at, text_of}
+use Rattle.name_counts.proofs.TextNumbers.{shown_at, text_of}
 use Rattle.name_counts.proofs.numbered_row.NumberedRow.keep_shared.Goals as goal
 
 -- the frames that are shared, by their names

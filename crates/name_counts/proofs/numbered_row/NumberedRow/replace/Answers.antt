@@ -1,7 +1,8 @@
 -- The frames that are shared stay, and the others are added.
 use Rattle.std.proofs.Common.{◌-◌, ◌+◌, ◌++◌, ◌∷◌, [], length, map, take, drop, get_or, ap, sym, ◌∙◌, refl}
+use Rattle.name_counts.specs.TextTables.{no_text}
 use Rattle.name_counts.proofs.NumberedRows.{next_frame}
-use Rattle.name_counts.proofs.TextNumbers.{next_with, no_text, text_of}
+use Rattle.name_counts.proofs.TextNumbers.{next_with, text_of}
 use Rattle.name_counts.proofs.numbered_row.NumberedRow.replace.Goals as goal
 
 pub loop-frame-preserved : goal.loop-frame-preserved

@@ -1,7 +1,7 @@
 use Rattle.std.proofs.Common.{◌≡◌, length}
 use Rattle.profile_rows.specs.Rows.{has_name}
 use Rattle.ordered_rows.specs.StackFrames.{frames_of}
-use Rattle.ordered_rows.proofs.text_stacks.has_frame.Given as goal
+use Rattle.ordered_rows.proofs.text_stacks.text_has_frame.Given as goal
 
 -- no frame so far has the name
 abbrev pub invariant-loop-frame : goal.invariant-loop-frame

@@ -1,8 +1,7 @@
 -- The stacks of the nodes, and what a tree keeps true.
-use Rattle.std.specs.Prelude.{ℕ, ◌≡◌, ◌<◌, ◌≤◌, ◌^◌, false, not, List, [], ◌∷◌, ◌++◌, length, map, slice_index_or}
+use Rattle.std.specs.Prelude.{ℕ, ◌≡◌, ◌<◌, false, not, List, [], ◌∷◌, ◌++◌, length, map, slice_index_or}
 use Rattle.profile_rows.specs.declared.weighted_stacks.WeightedStack.{WeightedStack}
-use Rattle.profile_rows.specs.Limits.{most_frames}
-use Rattle.profile_rows.specs.Rows.{has_name, total_of}
+use Rattle.profile_rows.specs.Rows.{has_name}
 use Rattle.call_tree.specs.declared.node.Node.{Node}
 use Rattle.call_tree.specs.State.{HasOwnStacks, name_at, stack_at}
 

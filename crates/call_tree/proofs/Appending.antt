@@ -141,7 +141,9 @@ module _ (names : List (List ℕ)) (nodes : List Node) (parent name : ℕ) (coun
   deep_added : (k : ℕ) → k < length all → length (stack_at (node_rows names all) k) ≤ 65535
   deep_added =
       by_node (λ k. length (stack_at (node_rows names all) k) ≤ 65535)
-      (λ k lt. omega (arith, ap length (stack_old k lt), tree.own.deep k (omega (arith, lt, length-node_rows names nodes))))
+      (λ k lt.
+      let old = tree.own.deep k (omega (arith, lt, length-node_rows names nodes)) in
+      omega (arith, ap length (stack_old k lt), old))
       (omega (
         arith,
         ap length stack_last,

@@ -131,7 +131,8 @@ module _ (names : List (List ℕ))
           let shorter = found.longest (at nodes index).parent d (tree.links index pos lt).0 (omega arith) both.0 in
           ⊎_elim
           (λ same. absurd (other
-          (tree.own.apart (at nodes index).parent slot (omega (arith, (tree.links index pos lt).0, length-node_rows names nodes))
+          (tree.own.apart (at nodes index).parent slot
+          (omega (arith, (tree.links index pos lt).0, length-node_rows names nodes))
           (omega (arith, found.within, length-node_rows names nodes))
           (both.0 ∙ ap (λ n. take n stack) same ∙ sym found.here))
           (omega arith)

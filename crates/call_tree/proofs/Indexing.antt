@@ -142,7 +142,11 @@ module _ (tree : PlainTree) (parent name : ℕ)
       (stack_at tree.nodes p) (stack_at tree.nodes parent) (name_at tree.names n) (name_at tree.names name)
       (ap (λ s. s ++ name_at tree.names n ∷ []) (sym (kept_stack p p_lt))
       ∙ sym child.stack ∙ ap (stack_at grown.nodes) k_last ∙ last_stack) in
-      inl (state.own.apart p parent p_lt parent_lt both.0, state.own.unlike n name child.name_lt name_lt both.1, k_last))
+      inl (
+        state.own.apart p parent p_lt parent_lt both.0,
+        state.own.unlike n name child.name_lt name_lt both.1,
+        k_last,
+      ))
       (λ p_last. absurd (longer_apart new_stack (name_at tree.names n)
       (sym last_stack ∙ ap (stack_at grown.nodes) (sym k_last)
       ∙ child.stack ∙ ap (λ s. s ++ name_at tree.names n ∷ []) (ap (stack_at grown.nodes) p_last ∙ last_stack))))

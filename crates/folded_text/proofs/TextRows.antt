@@ -21,11 +21,9 @@ use Rattle.ordered_rows.specs.StackOrder.{IsJoined}
 use Rattle.profile_rows.specs.StackTexts.{TextState}
 use Rattle.folded_text.specs.TextRows.{AreKnownTexts}
 use Rattle.ordered_rows.specs.SpelledRows.{IsStackText, rows_with, spelled_row, spelled_rows}
+use Rattle.ordered_rows.proofs.SpelledRows.{has}
 
 -- ---- rows known by their texts
-
-abbrev has : List ℕ → TextState → ℕ
-has text row = cond (bytes_eq text row.text) 1 0
 
 module _ (rows : List TextState)
     (at weight : ℕ) (found : TextState) (lt : at < length rows) (is : found ≡ get_or rows at found) where

@@ -76,7 +76,8 @@ IsJoined-measured text whole =
 
 -- ---- rows by their texts
 
-abbrev has : List ℕ → TextState → ℕ
+-- 1 where the row has the text
+abbrev pub has : List ℕ → TextState → ℕ
 has text row = cond (bytes_eq text row.text) 1 0
 
 -- a row follows those before it within the limit that all of them keep

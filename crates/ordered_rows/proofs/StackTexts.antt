@@ -18,15 +18,13 @@ use Rattle.profile_rows.specs.Names.{IsName}
 use Rattle.profile_rows.specs.StackTexts.{AreStackTexts, TextState, joined_row, plain_text}
 use Rattle.profile_rows.proofs.SameNames.{same_from_is_same_name}
 use Rattle.ordered_rows.specs.StackFrames.{frames_of}
+use Rattle.ordered_rows.proofs.SpelledRows.{has}
 use Rattle.ordered_rows.proofs.Joined.{frames_of-joined, joined_plain}
 
 abbrev Named : WeightedStack → Type 0
 Named row = All IsName row.stack
 
 -- ---- texts that differ stand once each
-
-abbrev has : List ℕ → TextState → ℕ
-has text row = cond (bytes_eq text row.text) 1 0
 
 none : (text : List ℕ) (rows : List TextState)
     → ((j : ℕ) (d : TextState) → j < length rows → (get_or rows j d).text ≡ text → ⊥) → rows_with text rows ≡ 0

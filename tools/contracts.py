@@ -236,7 +236,7 @@ def handed_on(crate):
     """What the page says of the names that a crate exports of other crates."""
     found = []
     for source, several, one in EXPORT.findall(root_of(crate)):
-        if (ROOT / "crates" / source).is_dir():
+        if source != crate.name and (ROOT / "crates" / source).is_dir():
             names = [it.strip() for it in (several or one).split(",") if it.strip()]
             found.append(f"{quoted(names)} of [{source}]({source}.md)")
     return [*wrapped(f"Exported too: {'; '.join(found)}."), ""] if found else []

@@ -13,9 +13,9 @@ use Rattle.folded_text.proofs.Writing.{length-rows_at, rows_at-row_in}
 use Rattle.profile_samples.specs.declared.exporting.ValueUnit.{ValueUnit}
 use Rattle.profile_samples.specs.Export.{KindAndUnit, exported_type, pairs_of, unit_texts}
 use Rattle.profile_samples.specs.Samples.{last_index}
-use Rattle.name_counts.specs.TextTables.{with_text, with_texts}
+use Rattle.name_counts.specs.TextTables.{no_text, with_text, with_texts}
 use Rattle.profile_samples.proofs.ExportLaws.{CanStand}
-use Rattle.name_counts.proofs.TextNumbers.{no_text, with_texts-append}
+use Rattle.name_counts.proofs.TextNumbers.{with_texts-append}
 
 -- ---- kinds and units
 

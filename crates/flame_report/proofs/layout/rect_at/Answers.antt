@@ -5,7 +5,8 @@ use Rattle.std.proofs.Common.{◌∙◌}
 use Rattle.std.proofs.lemmas.List.{get_or-map, length-map}
 use denote.Ref.{Bor}
 use Rattle.profile_rows.specs.Layout.{last_name}
-use Rattle.name_counts.proofs.TextNumbers.{no_text, text_of}
+use Rattle.name_counts.proofs.TextNumbers.{text_of}
+use Rattle.name_counts.specs.TextTables.{no_text}
 use Rattle.flame_report.proofs.Narrow.{last_name-take}
 use Rattle.flame_report.proofs.layout.rect_at.Goals as goal
 use Rattle.flame_report.proofs.layout.rect_at.Goals.{then-depth-eq0, else-depth-eq0+in_ok-name_of}

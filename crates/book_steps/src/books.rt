@@ -39,8 +39,9 @@ struct Opened {
 fn run_book(checker: &mut Checker, script: &mut Script, book: Book) {
     let mut opened = Opened { book };
     run_steps(checker, script, &mut opened);
-    let no_logs = Vec::new(checker.alloc);
-    run_closed(checker, script, &opened.book.into_journal(), no_logs);
+    let (no_logs, journal) = (Vec::new(checker.alloc), opened.book.into_journal());
+    run_closed(checker, script, &journal, no_logs);
+    drop(journal);
 }
 
 impl Scene for Opened {
@@ -84,20 +85,24 @@ fn change(book: &mut Book, turn: Turn, op: Option<Op>, made: &mut Made) {
     let (alloc, Turn { session, turn }) = (made.alloc(), turn);
     match op {
         Some(Op::Add(batch)) => match book.add(alloc, session, turn, batch) {
-            Ok(receipt) => tell_receipt(&receipt, made),
-            Err(refused) => made.refuse(&refused.fault),
+            Ok(receipt) => tell_receipt(receipt, made),
+            Err(refused) => {
+                made.refuse(&refused.fault);
+                drop(refused);
+            }
         },
         Some(Op::Reset) => match book.reset(alloc, session, turn) {
-            Ok(receipt) => tell_receipt(&receipt, made),
+            Ok(receipt) => tell_receipt(receipt, made),
             Err(fault) => made.refuse(&fault),
         },
         _ => made.fail(Wrong::Command),
     }
 }
 
-fn tell_receipt(receipt: &Receipt, made: &mut Made) {
+fn tell_receipt(receipt: Receipt, made: &mut Made) {
     let (place, at) = (place_of(&receipt.reply, made), receipt.at);
     made.say(&format_args!("place {place} at {at}"));
+    drop(receipt);
 }
 
 /// Prepares a change, which is then made or let go.
@@ -107,12 +112,16 @@ fn prepare(book: &mut Book, turn: Turn, op: Option<Op>, is_made: bool, made: &mu
         Some(Op::Reset) => prepare_change(book, turn, Change::Reset, is_made, made),
         _ => made.fail(Wrong::Command),
     }
+    drop(op);
 }
 
 fn prepare_change(book: &mut Book, turn: Turn, change: Change, is_made: bool, made: &mut Made) {
     match book.prepare(made.alloc(), turn.session, turn.turn, change) {
         Ok(ready) if is_made => settle(book, ready, made),
-        Ok(ready) => made.say(&format_args!("ready {}", total_of(ready.next()))),
+        Ok(ready) => {
+            made.say(&format_args!("ready {}", total_of(ready.next())));
+            drop(ready);
+        }
         Err(fault) => made.refuse(&fault),
     }
 }
@@ -122,9 +131,10 @@ fn settle(book: &mut Book, ready: Ready, made: &mut Made)
     requires { ready.before ≡ book.old }
 {
     let (before, next) = (total_of(book.tree()), total_of(ready.next()));
-    let at = book.settle(ready).at;
-    let after = total_of(book.tree());
+    let receipt = book.settle(ready);
+    let (after, at) = (total_of(book.tree()), receipt.at);
     made.say(&format_args!("before {before}, ready {next}, after {after}, at {at}"));
+    drop(receipt);
 }
 
 fn total_of(tree: &CallTree) -> u64 {

@@ -21,7 +21,9 @@ pub fn run_closed(
     journal: &Journal,
     logs: Vec<SessionLog>,
 ) {
-    run_steps(checker, script, &mut Closed { journal, logs });
+    let mut closed = Closed { journal, logs };
+    run_steps(checker, script, &mut closed);
+    drop(closed);
 }
 
 impl Scene for Closed<'_> {
@@ -70,7 +72,10 @@ fn tell_change(op: &Op, made: &mut Made) {
 /// Adds the rows that count, by their first value.
 fn tell_tree(journal: &Journal, made: &mut Made) {
     match journal.tree().rows(made.alloc()) {
-        Ok(rows) => made.add_made(write_stacks(made.alloc(), rows.first())),
+        Ok(rows) => {
+            made.add_made(write_stacks(made.alloc(), rows.first()));
+            drop(rows);
+        }
         Err(_) => made.fail(Wrong::NoMemory),
     }
 }
@@ -91,6 +96,7 @@ fn share_log(logs: &mut Vec<SessionLog>, words: Words, made: &mut Made) {
 fn audit_input(words: Words, journal: &Journal, input: &[u8], made: &mut Made) {
     let logs = logs_of(input, made);
     audit_logs(words, journal, &logs, made);
+    drop(logs);
 }
 
 /// The logs that the input spells, one in each line: `1: add b 2 at 1, ask total says 3 at 2`.
@@ -142,16 +148,25 @@ fn audit_logs(words: Words, journal: &Journal, logs: &[SessionLog], made: &mut M
 /// Adds the steps of a run in a line, or, `listed`, each in its own; where they are `counted` only their number.
 pub fn tell_verdict(words: Words, verdict: Result<Run, AuditFault>, made: &mut Made) {
     match verdict {
-        Ok(run) if words.has("counted") => made.say(&format_args!("{} steps", run.steps().len())),
-        Ok(run) if words.has("listed") => tell_steps(&run, '\n', made),
-        Ok(run) => tell_steps(&run, ' ', made),
+        Ok(run) => {
+            tell_run(words, &run, made);
+            drop(run);
+        }
         Err(fault) => made.refuse(&fault),
     }
 }
 
+fn tell_run(words: Words, run: &Run, made: &mut Made) {
+    let count = run.steps().len();
+    if words.has("counted") {
+        return made.say(&format_args!("{count} steps"));
+    }
+    made.print(&format_args!("{count} steps:"));
+    tell_steps(run, if words.has("listed") { '\n' } else { ' ' }, made);
+}
+
 /// Adds the session of each step, and its place in the session's log.
 fn tell_steps(run: &Run, between: char, made: &mut Made) {
-    made.print(&format_args!("{} steps:", run.steps().len()));
     for step in run.steps() {
         made.print(&format_args!("{between}{}.{}", step.session, step.index));
     }
@@ -161,9 +176,14 @@ fn tell_steps(run: &Run, between: char, made: &mut Made) {
 /// `same`: whether two receipts tell of the same operation, and of the same reply.
 pub fn compare_receipts(input: &[u8], made: &mut Made) {
     let receipts = receipts_of(made.text_of(input), made);
-    let [first, second] = receipts.as_slice() else {
-        return made.fail(Wrong::Line);
-    };
+    match receipts.as_slice() {
+        [first, second] => compare(first, second, made),
+        _ => made.fail(Wrong::Line),
+    }
+    drop(receipts);
+}
+
+fn compare(first: &Receipt, second: &Receipt, made: &mut Made) {
     let (op, reply) = (first.op == second.op, first.reply == second.reply);
     made.say(&format_args!("operation {op}, reply {reply}"));
 }

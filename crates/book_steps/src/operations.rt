@@ -48,10 +48,8 @@ pub(crate) fn receipt_of(text: &str, made: &mut Made) -> Option<Receipt> {
     let (text, at) = text.rsplit_once(" at ").unwrap_or(("", ""));
     let at = made.number(at);
     let op = op_of(Words { text }, b"", made);
-    match (op, reply_of(Words { text }, at, made)) {
-        (Some(op), Some(reply)) => Some(Receipt { op, reply, at }),
-        _ => None,
-    }
+    let (op, reply) = op.zip(reply_of(Words { text }, at, made))?;
+    Some(Receipt { op, reply, at })
 }
 
 /// The total that `says` gives, or else the place of a change.

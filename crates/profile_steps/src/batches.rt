@@ -44,16 +44,17 @@ pub(crate) fn run(words: Words, input: &[u8], made: &mut Made) {
 
 fn run_rows(asked: Asked, made: &mut Made) {
     let width = width_of(asked.words, made);
-    run_batch(
-        asked,
-        &spelled_rows::batch_of(width, asked.input, made),
-        made,
-    );
+    let batch = spelled_rows::batch_of(width, asked.input, made);
+    run_batch(asked, &batch, made);
+    drop(batch);
 }
 
 fn run_text(asked: Asked, made: &mut Made) {
     match read_folded(made.alloc(), asked.input) {
-        Ok(batch) => run_batch(asked, &batch, made),
+        Ok(batch) => {
+            run_batch(asked, &batch, made);
+            drop(batch);
+        }
         Err(fault) => refuse_text(asked, fault, made),
     }
 }
@@ -85,6 +86,7 @@ fn agree_on_lines_before(asked: Asked, fault: FoldedFault, made: &mut Made) {
     let added = sums.add(asked.input);
     made.agree("LineSums::add", added.fault == Some(fault));
     agree_on_lines(asked, added.len, sums.stacks(), made);
+    drop(sums);
 }
 
 /// Whether the lines in so many bytes have these sums.
@@ -125,6 +127,7 @@ fn agree_on_lent_rows(batch: &Batch, made: &mut Made) {
         }
     }
     made.agree("Batch::rows", lent == *batch);
+    drop(lent);
 }
 
 fn push(batch: &mut Batch, stack: Stack, weights: Weights, made: &mut Made) {
@@ -138,6 +141,7 @@ fn agree_on_given_rows(batch: &Batch, made: &mut Made) {
         Ok(mut given) => {
             give_rows(batch, &mut given, made);
             made.agree("Batch::into_rows", given == *batch);
+            drop(given);
         }
         Err(_) => made.fail(Wrong::NoMemory),
     }
@@ -161,6 +165,7 @@ fn agree_on_stacks(stacks: &WeightedStacks, made: &mut Made) {
         Ok(mut given) => {
             give_stacks(stacks, &mut given, made);
             made.agree("WeightedStacks::into_rows", given == *stacks);
+            drop(given);
         }
         Err(_) => made.fail(Wrong::NoMemory),
     }
@@ -180,7 +185,10 @@ fn give_stacks(stacks: &WeightedStacks, given: &mut WeightedStacks, made: &mut M
 /// `aggregate alone` goes no other way.
 fn put_together(asked: Asked, batch: &Batch, made: &mut Made) {
     match aggregate(made.alloc(), batch) {
-        Ok(sums) => add_sums(asked, batch, &sums, made),
+        Ok(sums) => {
+            add_sums(asked, batch, &sums, made);
+            drop(sums);
+        }
         Err(_) => made.fail(Wrong::NoMemory),
     }
 }
@@ -205,7 +213,10 @@ fn agree_on_sums(batch: &Batch, sums: &WeightedStacks, made: &mut Made) {
 /// Whether the text in order has these sums.
 fn agree_on_order(asked: Asked, sums: &WeightedStacks, made: &mut Made) {
     match read_ordered(made.alloc(), asked.hashing, asked.input) {
-        Ok(ordered) => agree_on_text(&ordered, sums, made),
+        Ok(ordered) => {
+            agree_on_text(&ordered, sums, made);
+            drop(ordered);
+        }
         Err(_) => made.fail(Wrong::Missing),
     }
 }

@@ -17,7 +17,9 @@ fn add_name(name: &Name, made: &mut Made) {
     made.say(&name.text());
     made.compare("Name::keep", Name::keep(made.alloc(), name.text()), name);
     if let Some(copy) = made.done(name.clone()) {
-        made.agree("Label::of", Label::of(copy).text() == name.text());
+        let label = Label::of(copy);
+        made.agree("Label::of", label.text() == name.text());
+        drop(label);
     }
 }
 
@@ -46,6 +48,7 @@ pub(crate) fn compare(input: &[u8], made: &mut Made) {
     let (left, right) = made.halves(text, '\n');
     let (left, right) = (stack_of(left, made), stack_of(right.trim_end(), made));
     made.show(&(left.cmp(&right), left == right));
+    drop((left, right));
 }
 
 /// `width 4`, `columns 65535`: a number of values or of columns, where there can be so many.
@@ -64,4 +67,5 @@ pub(crate) fn weights(input: &[u8], made: &mut Made) {
         Some(weights) => made.show(&(weights.values(), weights.width().get())),
         None => made.say(&"none"),
     }
+    drop(values);
 }

@@ -20,6 +20,7 @@ fn fault_of(words: Words, bytes: &[u8], made: &mut Made) -> Option<ProfileFault>
     match decode(made.alloc(), bytes) {
         Ok(profile) => {
             answer_by(words, &profile, made);
+            drop(profile);
             None
         }
         Err(fault) => Some(fault),
@@ -57,7 +58,10 @@ fn expect_again(bytes: &[u8], made: &mut Made) {
 
 fn read_again(bytes: &[u8], made: &mut Made) {
     match decode(made.alloc(), bytes) {
-        Ok(profile) => add_encoded(&profile, made),
+        Ok(profile) => {
+            add_encoded(&profile, made);
+            drop(profile);
+        }
         Err(_) => made.fail(Wrong::Unequal),
     }
 }

@@ -50,9 +50,11 @@ fn answer(asked: Asked, batch: &Batch, kind: &str, made: &mut Made) {
             add_answer(asked.words, &answer, made);
             made.end_line(b'\n');
             agree_on_all_ways(given, made);
+            drop(answer);
         }
         Err(_) => made.fail(Wrong::NoMemory),
     }
+    drop(query);
 }
 
 /// The other ways.
@@ -114,6 +116,7 @@ fn agree_on_text(given: Given, made: &mut Made) {
     );
     let sums = sums_of_pieces(alloc, hashing, text);
     agree_on_stacks(given, "LineSums", sums.stacks(), made);
+    drop(sums);
 }
 
 /// The answer over folded text that is read in order.

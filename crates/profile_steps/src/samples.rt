@@ -56,7 +56,9 @@ fn add_top(totals: FrameTotals, made: &mut Made) {
     let query = query_of(words, "top", made);
     if let Some(top) = made.done(top_answer(&query, totals)) {
         add_answer(words, &top, made);
+        drop(top);
     }
+    drop(query);
 }
 
 /// Adds rows by each value, one after the other; of several values the totals too.
@@ -68,6 +70,7 @@ fn say_rows(words: Words, profile: &Profile, made: &mut Made) {
             if rows.width().get() > 1 {
                 made.show(&rows.total().values());
             }
+            drop(rows);
         }
         Err(fault) => made.refuse(&fault),
     }
@@ -107,7 +110,10 @@ fn export_units(units: &[ValueUnit], rows: &Batch, made: &mut Made) {
         return made.fail(Wrong::Missing);
     }
     match profile_of(made.alloc(), rows, units) {
-        Ok(profile) => say_profile(&profile, made),
+        Ok(profile) => {
+            say_profile(&profile, made);
+            drop(profile);
+        }
         Err(_) => made.fail(Wrong::NoMemory),
     }
 }

@@ -39,7 +39,10 @@ fn plan_of(alloc: Global, grower: &mut Grower, rows: &Batch) -> Option<Plan>
 /// Whether the tree of rows answers as the rows do.
 pub(crate) fn agree_on_report(given: Given, made: &mut Made) {
     match Grower::new(made.alloc(), given.batch.width()) {
-        Ok(mut grower) => agree_on_grown(&mut grower, given, made),
+        Ok(mut grower) => {
+            agree_on_grown(&mut grower, given, made);
+            drop(grower);
+        }
         Err(_) => made.fail(Wrong::NoMemory),
     }
 }
@@ -79,6 +82,7 @@ pub fn run_scene(checker: &mut Checker, script: &mut Script, step: &Step) {
 fn run_growing(checker: &mut Checker, script: &mut Script, growing: Growing) {
     let mut growing = growing;
     run_steps(checker, script, &mut growing);
+    drop(growing);
 }
 
 impl Scene for Growing {
@@ -114,10 +118,11 @@ impl Growing {
     }
 
     fn share(&mut self, made: &mut Made) {
-        self.shared = made.done(self.grower.tree().share());
-        if let Some(shared) = &self.shared {
+        let shared = made.done(self.grower.tree().share());
+        if let Some(shared) = &shared {
             add_total(shared, made);
         }
+        drop(mem::replace(&mut self.shared, shared));
     }
 
     /// Adds the rows of a step: folded text where they have one value.
@@ -125,20 +130,27 @@ impl Growing {
         let width = self.grower.tree().width();
         if width.get() > 1 {
             let rows = spelled_rows::batch_of(width, input, made);
-            return grow(&mut self.grower, words, &rows, made);
+            return grow(&mut self.grower, words, rows, made);
         }
         match read_folded(made.alloc(), input) {
-            Ok(rows) => grow(&mut self.grower, words, &rows, made),
+            Ok(rows) => grow(&mut self.grower, words, rows, made),
             Err(_) => made.fail(Wrong::Line),
         }
     }
 }
 
 /// `plan`, `plan dropped`, `add`, `give`: adds rows.
-fn grow(grower: &mut Grower, words: Words, rows: &Batch, made: &mut Made) {
+fn grow(grower: &mut Grower, words: Words, rows: Batch, made: &mut Made) {
+    match words.word(0) {
+        "plan" => plan(grower, &rows, words, made),
+        word => grow_now(grower, word, &rows, made),
+    }
+    drop(rows);
+}
+
+fn grow_now(grower: &mut Grower, word: &str, rows: &Batch, made: &mut Made) {
     let alloc = made.alloc();
-    let is_done = match words.word(0) {
-        "plan" => return plan(grower, rows, words, made),
+    let is_done = match word {
         "add" => has_room(grower, rows) && grower.add(alloc, rows).is_ok(),
         "give" => give(alloc, grower, rows),
         _ => false,
@@ -159,7 +171,7 @@ fn give(alloc: Global, grower: &mut Grower, rows: &Batch) -> bool {
     };
     match mem::replace(grower, empty).with_batch(alloc, rows) {
         Ok(grown) => {
-            *grower = grown;
+            drop(mem::replace(grower, grown));
             true
         }
         Err(_) => false,
@@ -187,7 +199,9 @@ fn credit(grower: &mut Grower, plan: Plan, words: Words, made: &mut Made)
 {
     let (next, now) = (plan.next().total(), grower.tree().total());
     made.say(&format_args!("next {:?}, now {:?}", next.values(), now.values()));
-    if !words.has("dropped") {
+    if words.has("dropped") {
+        drop(plan);
+    } else {
         grower.credit(plan);
     }
 }
@@ -201,6 +215,7 @@ fn weigh(tree: &CallTree, stacks: &[u8], made: &mut Made) {
     for frames in made.text_of(stacks).lines() {
         if let Some(stack) = stack_of(frames, made) {
             made.show(&tree.self_weight(&stack).values());
+            drop(stack);
         }
     }
 }
@@ -224,4 +239,5 @@ fn add_names(tree: &CallTree, value: u32, made: &mut Made) {
         let (name, flat, cum) = (total.name.text(), total.flat, total.cum);
         made.say(&format_args!("{name} {flat}/{cum}"));
     }
+    drop(totals);
 }

@@ -32,9 +32,9 @@ pub(crate) fn run_live<R: Threads + Wait + Sync>(
     let sessions = made.number_after(words, "sessions", 2);
     let options = LiveOptions::new(sessions, words.has("all"), words.has("warm"));
     let batch = batch_of(Words { text: row }, input, made);
-    match (options, batch) {
-        (Some(options), Some(batch)) => tell_live(rt, options, batch, made),
-        _ => made.fail(Wrong::Command),
+    match options.zip(batch) {
+        Some((options, batch)) => tell_live(rt, options, batch, made),
+        None => made.fail(Wrong::Command),
     }
 }
 

@@ -64,6 +64,7 @@ impl<'a, T: Threads + Wait + RandomSource + Sync> Run<'a, T> {
         } else {
             self.run_on(&Unrandom { rt: self.rt }, words.as_slice(), made);
         }
+        drop(words);
     }
 
     fn run_on<H: Threads + Wait + RandomSource + Sync>(
@@ -84,6 +85,7 @@ impl<'a, T: Threads + Wait + RandomSource + Sync> Run<'a, T> {
             self.streams.limit.min(MAX_INPUT),
         );
         add_end(&status, &writer, made);
+        drop((reader, writer, status));
     }
 
     /// Runs the program more than once: `both NAME flame top`, `each of NAME`, `each read fails flame top`,
@@ -99,6 +101,7 @@ impl<'a, T: Threads + Wait + RandomSource + Sync> Run<'a, T> {
             _ => made.fail(Wrong::Command),
         }
         ends.tell(made);
+        drop(ends);
     }
 
     /// On the input, which is folded text, and on a profile.
@@ -154,6 +157,7 @@ impl<'a, T: Threads + Wait + RandomSource + Sync> Run<'a, T> {
         for is_lasting in [false, true] {
             self.fail_each(command, places, is_lasting, report.bytes(), ends, made);
         }
+        drop(report);
     }
 
     /// Runs with a fault at each of so many places: of writes where there is a report, and else of reads.
@@ -199,13 +203,17 @@ impl<'a, T: Threads + Wait + RandomSource + Sync> Run<'a, T> {
             &mut said,
         );
         add_process(&end, said.taken.as_slice(), made);
+        drop((said, end));
     }
 
     /// `read`: what the input has up to the limit, and how much is left unread.
     pub(crate) fn read(self, made: &mut Made) {
         let mut reader = self.streams.reader(self.input);
         match read_input(self.alloc, &mut reader, self.streams.limit.min(MAX_INPUT)) {
-            Ok(input) => made.say(&format_args!("{} bytes", input.len())),
+            Ok(input) => {
+                made.say(&format_args!("{} bytes", input.len()));
+                drop(input);
+            }
             Err(fault) => made.refuse(&fault),
         }
         made.say(&format_args!("{} left", reader.rest.len()));

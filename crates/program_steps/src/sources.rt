@@ -65,6 +65,7 @@ pub(crate) fn fill<R: Threads + Wait + Clock + Sync>(rt: &R, input: &[u8], made:
         };
         let slots = slots_of(made.text_of(input), made);
         watch(rt, slots.as_slice(), &watcher, made);
+        drop((slots, watcher));
     }
 }
 
@@ -109,7 +110,10 @@ fn watch<R: Threads + Wait + Clock + Sync>(
     made: &mut Made,
 ) {
     match fill_window(rt, made.alloc(), Hashing::fixed(), slots, watcher) {
-        Ok(closed) => tell_window(&closed, made),
+        Ok(closed) => {
+            tell_window(&closed, made);
+            drop(closed);
+        }
         Err(fault) => made.refuse(&fault),
     }
     for slot in slots {

@@ -105,10 +105,9 @@ fn add_layout(flame: &Flame, made: &mut Made) {
         add_rect(rect, made);
     }
     if let Some(json) = made.done(flame_json(made.alloc(), flame)) {
-        made.agree(
-            "flame_json",
-            json.matches("\"depth\":").count() == rects.len(),
-        );
+        let count = json.matches("\"depth\":").count();
+        made.agree("flame_json", count == rects.len());
+        drop(json);
     }
 }
 

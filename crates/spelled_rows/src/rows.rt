@@ -63,21 +63,23 @@ pub fn numbers_of(text: &str, made: &mut Made) -> Vec<u64> {
 
 /// Adds a row to a batch, or tells why it is refused, and how many frames come back.
 pub fn push_row(batch: &mut Batch, frames: &str, weights: Weights, made: &mut Made) {
-    let Some(stack) = stack_of(frames, made) else {
-        return;
-    };
-    if let Err(refused) = batch.push(stack, weights) {
-        made.refuse(&refused.fault);
-        made.say(&format_args!("back {} frames", refused.back.names().len()));
+    if let Some(stack) = stack_of(frames, made) {
+        if let Err(refused) = batch.push(stack, weights) {
+            made.refuse(&refused.fault);
+            made.say(&format_args!("back {} frames", refused.back.names().len()));
+            drop(refused);
+        }
     }
 }
 
 fn push_line(batch: &mut Batch, line: &str, made: &mut Made) {
     let (frames, _) = line.rsplit_once('[').unwrap_or(("", ""));
-    match Weights::make(values_of(line, made).as_slice()) {
+    let values = values_of(line, made);
+    match Weights::make(values.as_slice()) {
         Some(weights) => push_row(batch, frames.trim_end(), weights, made),
         None => made.fail(Wrong::Line),
     }
+    drop(values);
 }
 
 /// The batch of rows with values in brackets. It tells of those that the batch refuses.

@@ -18,8 +18,12 @@ pub fn add_stacks(tree: &CallTree, value: u32, made: &mut Made) {
         Ok(stacks) => {
             agree_on_stacks(tree, value, &stacks, made);
             add_written(&stacks, by_texts, made);
+            drop(stacks);
         }
-        Err(_) => made.fail(Wrong::NoMemory),
+        Err(_) => {
+            made.fail(Wrong::NoMemory);
+            drop(by_texts);
+        }
     }
 }
 
@@ -33,7 +37,10 @@ fn add_written(stacks: &WeightedStacks, by_texts: Result<Vec<u8>, NoMemory>, mad
 
 fn agree_on_stacks(tree: &CallTree, value: u32, stacks: &WeightedStacks, made: &mut Made) {
     match tree.rows(made.alloc()) {
-        Ok(rows) => agree_on_sums(&rows, value, stacks, made),
+        Ok(rows) => {
+            agree_on_sums(&rows, value, stacks, made);
+            drop(rows);
+        }
         Err(_) => made.fail(Wrong::NoMemory),
     }
 }

@@ -2,7 +2,7 @@
 
 use book_steps::{batch_of, op_of, query_of};
 use profile_store::{
-    Batch, BookFault, Op, Placed, Receipt, Reply, Session, StoreName, Told, Window,
+    Answer, Batch, BookFault, Op, Placed, Receipt, Reply, Session, StoreName, Told, Window,
 };
 use row_scripts::{Made, Words, Wrong};
 use spelled_rows::{add_answer, add_stacks};
@@ -83,15 +83,32 @@ pub(crate) fn run_op<N: StoreName, R: Wait>(
     op: Op,
 ) -> Result<Option<Placed<N>>, BookFault> {
     match op {
-        Op::Add(batch) => match session.add(rt, alloc, batch) {
-            Ok(placed) => Ok(Some(placed)),
-            Err(refused) => Err(refused.fault),
-        },
+        Op::Add(batch) => add(rt, alloc, session, batch).map(Some),
         Op::Reset => session.reset(rt, alloc).map(Some),
-        Op::Ask(query) => match session.ask(alloc, &query) {
-            Ok(_) => Ok(None),
-            Err(fault) => Err(fault),
-        },
+        Op::Ask(query) => {
+            let fault = session.ask(alloc, &query).err();
+            drop(query);
+            match fault {
+                Some(fault) => Err(fault),
+                None => Ok(None),
+            }
+        }
+    }
+}
+
+fn add<N: StoreName, R: Wait>(
+    rt: &R,
+    alloc: Global,
+    session: &mut Session<'_, N>,
+    batch: Arc<Batch>,
+) -> Result<Placed<N>, BookFault> {
+    match session.add(rt, alloc, batch) {
+        Ok(placed) => Ok(placed),
+        Err(refused) => {
+            let fault = refused.fault;
+            drop(refused);
+            Err(fault)
+        }
     }
 }
 
@@ -106,6 +123,7 @@ fn take_window<N: StoreName, R: Wait>(
         Ok(Window { placed, tree }) => {
             keep(placed, told, made);
             add_stacks(&tree, 0, made);
+            drop(tree);
         }
         Err(fault) => made.refuse(&fault),
     }
@@ -138,19 +156,28 @@ pub(crate) fn hold<N: StoreName, R: Wait>(
     made: &mut Made,
 ) {
     let times = made.number(deed.words.word(0));
-    let Some(query) = query_of(deed.words.rest(1), made) else {
-        return;
-    };
-    match first.ask(made.alloc(), &query) {
-        Ok(answer) => {
-            let mut added = Made::new(made.alloc());
-            add_times(rt, second, deed, times, &mut added);
-            add_answer(deed.words, answer, made);
-            made.add(added.bytes());
-            made.fail_as(&added);
+    if let Some(query) = query_of(deed.words.rest(1), made) {
+        match first.ask(made.alloc(), &query) {
+            Ok(answer) => hold_answer(rt, answer, second, deed, times, made),
+            Err(fault) => made.refuse(&fault),
         }
-        Err(fault) => made.refuse(&fault),
+        drop(query);
     }
+}
+
+fn hold_answer<N: StoreName, R: Wait>(
+    rt: &R,
+    answer: &Answer,
+    second: &mut Session<'_, N>,
+    deed: Deed,
+    times: u64,
+    made: &mut Made,
+) {
+    let mut added = Made::new(made.alloc());
+    add_times(rt, second, deed, times, &mut added);
+    add_answer(deed.words, answer, made);
+    made.add(added.bytes());
+    made.fail_as(&added);
 }
 
 /// A session adds the rows of a deed so often. It tells how many receipts it then has.
@@ -163,6 +190,7 @@ fn add_times<N: StoreName, R: Wait>(
 ) {
     if let Some(batch) = batch_of(deed.words.rest(3), deed.input, made) {
         add_often(rt, made.alloc(), session, &batch, times);
+        drop(batch);
     }
     made.say(&format_args!("{} receipts", session.log().len()));
 }

@@ -62,7 +62,9 @@ fn run_store<N: StoreName, R: Threads + Wait + Sync>(
 {
     let store = Store::<N>::start(blank);
     let logs = run_sessions(rt, checker, script, step, &store);
-    run_closed(checker, script, &store.close(rt), logs);
+    let journal = store.close(rt);
+    run_closed(checker, script, &journal, logs);
+    drop(journal);
 }
 
 /// Opens the sessions, and gives their logs.
@@ -192,6 +194,7 @@ impl<N: StoreName, R: Wait> Room<'_, N, R> {
             Ok(mut session) => {
                 tell_number(&session, made);
                 take(self.rt, &mut session, &mut self.told, deed, made);
+                drop(session);
             }
             Err(fault) => made.refuse(&fault),
         }

@@ -31,6 +31,7 @@ pub(crate) fn run<N: StoreName, R: Threads + Wait + Sync>(
     start_all(room.rt, sessions, &bench, made);
     bench.tell(made);
     keep_all(bench.end(), &mut room.logs, made);
+    drop(work);
 }
 
 /// A thread for each session.
@@ -71,6 +72,7 @@ fn work_of(text: &str, made: &mut Made) -> Work {
         work.add_line(line, &mut rows, made);
     }
     made.fail_as(&rows);
+    drop(rows);
     work
 }
 

@@ -22,6 +22,7 @@ pub(crate) fn run<N: StoreName, R: Threads + Wait + Sync>(
     let times = made.number(deed.words.word(0));
     if let Some(batch) = batch_of(deed.words.rest(1), deed.input, made) {
         weigh(room.rt, room.sessions.as_mut_slice(), &batch, times, made);
+        drop(batch);
     }
 }
 
@@ -83,6 +84,7 @@ fn take_often<N: StoreName, R: Wait>(
     for _ in 0..times {
         if let Ok(window) = session.take(rt, alloc) {
             weight = weight.saturating_add(window.tree.total().values()[0]);
+            drop(window);
         }
     }
     weight

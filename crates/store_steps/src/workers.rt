@@ -23,6 +23,7 @@ pub(crate) fn run_lists<N: StoreName, R: Threads + Wait + Sync>(
     let all = run_workers(room.rt, made.alloc(), room.store, lists, &gate);
     keep_work(room, all, made);
     gate.tell(room.rt, made);
+    drop(gate);
 }
 
 /// The same with no gate.
@@ -59,6 +60,7 @@ pub(crate) fn run_held<N: StoreName, R: Threads + Wait + Sync>(
         None => made.fail(Wrong::Missing),
     }
     gate.tell(rt, made);
+    drop(gate);
 }
 
 /// A gate for so many workers.

@@ -1,5 +1,5 @@
 -- What the command makes of words.
-use Rattle.std.proofs.Common.{◌≡◌, ◌⊎◌, ◌||◌, Bool, List, [], ◌∷◌, true, false, refl, inl, inr}
+use Rattle.std.proofs.Common.{◌≡◌, ◌⊎◌, List, [], ◌∷◌, true, refl, inl, inr}
 use Rattle.clap.specs.Words.{HasKind, IsAmong, Kinds, Text, fault_of, is_simple, is_simple_and_free, kind_of}
 use Rattle.clap.specs.Words.{subcommand_of}
 use Rattle.clap.specs.declared.error.Error.{Error}
@@ -37,7 +37,3 @@ no_fault (kind ∷ kinds) reading none = absurd (cc)
 pub read_at_success : (words : List Text)
     → fault_of program_app words ≡ [] → reading_of words ≡ asked_by (subcommand_of program_app words)
 read_at_success words none = no_fault (fault_of program_app words) (asked_by (subcommand_of program_app words)) none
-
-pub or_no : (a b : Bool) → b ≡ false → (a || b) ≡ a
-or_no true b off = refl
-or_no false b off = off

@@ -1,5 +1,5 @@
 -- The command line: the command, and what words ask for.
-use Rattle.std.specs.Prelude.{ℕ, ◌≡◌, ⊤, ◌&&◌, Bool, true, false, List, [], ◌∷◌, Option, Some, None, Result, Ok, Err}
+use Rattle.std.specs.Prelude.{ℕ, ◌≡◌, ⊤, ◌&&◌, true, false, List, [], ◌∷◌, Option, Some, None, Result, Ok, Err}
 use Rattle.std.specs.Prelude.{codes}
 use Rattle.std.specs.Prelude.{map, if◌then◌else◌}
 use Rattle.std.specs.Borrow.{Bor}
@@ -192,7 +192,7 @@ IsNameFault given BadName = is_name_if_given given ≡ false
 IsNameFault given Sessions = ⊥
 IsNameFault given NoMemory = ⊤
 
--- a command of these rules, and whether it has an option that holds for its subcommands too
-pub record HasRules (app : App) (has_globals : Bool) (command : Command) : Type 0 where
+-- a command of these rules, none of whose options hold for its subcommands too
+pub record HasRules (app : App) (command : Command) : Type 0 where
   pub app_is : app_of command ≡ app
-  pub globals_are : (out-Command command).has_globals ≡ has_globals
+  pub no_globals : (out-Command command).has_globals ≡ false

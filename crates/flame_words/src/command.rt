@@ -1,8 +1,7 @@
 //! The command `flame`: its subcommands, their options and their help.
 
 ghost use Rattle.std.specs.Prelude.{◌≡◌, IfOk, false};
-ghost use Rattle.clap.specs.Words.{App, app_of, rule_of, with_rule, with_subcommand};
-ghost use Rattle.clap.specs.declared.builder.command.Command.TheViews.{out-Command};
+ghost use Rattle.clap.specs.Words.{App, app_of, new_app, rule_of, with_rule, with_subcommand};
 ghost use Rattle.flame_words.specs.Words.{HasRules, default_rule, flag_rule, flame_app, flame_graph_app, fold_app};
 ghost use Rattle.flame_words.specs.Words.{live_app, option_rule, program_app, proto_app, top_app, with_filters};
 ghost use Rattle.flame_words.specs.Words.{with_source};
@@ -10,25 +9,44 @@ ghost use Rattle.flame_words.specs.Words.{with_source};
 use clap::{Arg, ArgAction, Command};
 use std::alloc::{AllocError, Global};
 
-// With an option that is the command's own.
-fn with_own<'a>(command: Command<'a>, option: Arg<'a>) -> Result<Command<'a>, AllocError>
-    requires { option.global ≡ false }
-    ensures { IfOk result (HasRules (with_rule (app_of command.entry) (rule_of option.entry))
-        (out-Command command.entry).has_globals) }
+/// A command that is being made, or that there was no memory for.
+type Making<'a> = Result<Command<'a>, AllocError>;
+
+// A subcommand without options.
+fn named<'a>(alloc: Global, name: &'a str, about: &'a str, after_help: &'a str) -> Making<'a>
+    ensures { IfOk result (HasRules (new_app name.entry.now)) }
 {
-    command.arg(option)
+    let command = Command::new(alloc, name)
+        .about(about)
+        .after_help(after_help);
+    Ok(command)
+}
+
+// With an option that is the command's own.
+fn with_own<'a>(command: Making<'a>, option: Arg<'a>) -> Making<'a>
+    requires { option.global ≡ false }
+    ensures { (app : App) → IfOk command.entry (HasRules app)
+        → IfOk result (HasRules (with_rule app (rule_of option.entry))) }
+{
+    match command {
+        Ok(command) => command.arg(option),
+        Err(fault) => {
+            drop(option);
+            Err(fault)
+        }
+    }
 }
 
 // With an option that has a value.
 fn with_option<'a>(
     alloc: Global,
-    command: Command<'a>,
+    command: Making<'a>,
     id: &'a str,
     value_name: &'a str,
     text: &'a str,
-) -> Result<Command<'a>, AllocError>
-    ensures { IfOk result (HasRules (with_rule (app_of command.entry) (option_rule id.entry.now))
-        (out-Command command.entry).has_globals) }
+) -> Making<'a>
+    ensures { (app : App) → IfOk command.entry (HasRules app)
+        → IfOk result (HasRules (with_rule app (option_rule id.entry.now))) }
 {
     let option = Arg::new(alloc, id)
         .long(id)
@@ -40,14 +58,14 @@ fn with_option<'a>(
 // With an option that has a value, and this one where it isn't given.
 fn with_default<'a>(
     alloc: Global,
-    command: Command<'a>,
+    command: Making<'a>,
     id: &'a str,
     default: &'a str,
     value_name: &'a str,
     text: &'a str,
-) -> Result<Command<'a>, AllocError>
-    ensures { IfOk result (HasRules (with_rule (app_of command.entry) (default_rule id.entry.now default.entry.now))
-        (out-Command command.entry).has_globals) }
+) -> Making<'a>
+    ensures { (app : App) → IfOk command.entry (HasRules app)
+        → IfOk result (HasRules (with_rule app (default_rule id.entry.now default.entry.now))) }
 {
     let option = Arg::new(alloc, id)
         .long(id)
@@ -58,14 +76,9 @@ fn with_default<'a>(
 }
 
 // With an option that has no value.
-fn with_flag<'a>(
-    alloc: Global,
-    command: Command<'a>,
-    id: &'a str,
-    text: &'a str,
-) -> Result<Command<'a>, AllocError>
-    ensures { IfOk result (HasRules (with_rule (app_of command.entry) (flag_rule id.entry.now))
-        (out-Command command.entry).has_globals) }
+fn with_flag<'a>(alloc: Global, command: Making<'a>, id: &'a str, text: &'a str) -> Making<'a>
+    ensures { (app : App) → IfOk command.entry (HasRules app)
+        → IfOk result (HasRules (with_rule app (flag_rule id.entry.now))) }
 {
     let option = Arg::new(alloc, id)
         .long(id)
@@ -83,11 +96,10 @@ const VALUE: &str = "\
     without it the profile's own choice";
 
 // With the options that say how the input is read.
-fn with_source<'a>(alloc: Global, command: Command<'a>) -> Result<Command<'a>, AllocError>
-    ensures { IfOk result (HasRules (with_source (app_of command.entry))
-        (out-Command command.entry).has_globals) }
+fn with_source<'a>(alloc: Global, command: Making<'a>) -> Making<'a>
+    ensures { (app : App) → IfOk command.entry (HasRules app) → IfOk result (HasRules (with_source app)) }
 {
-    let command = with_default(alloc, command, "format", "folded", "FORMAT", FORMAT)?;
+    let command = with_default(alloc, command, "format", "folded", "FORMAT", FORMAT);
     with_option(alloc, command, "value", "TYPE", VALUE)
 }
 
@@ -96,12 +108,12 @@ const FOCUS: &str = "Count only stacks that have a frame of exactly this name, i
 const IGNORE: &str = "Leave out stacks that have a frame of exactly this name, in totals too";
 
 // With the options of a report of stacks: how the input is read, and which stacks are kept.
-fn with_report_options<'a>(alloc: Global, command: Command<'a>) -> Result<Command<'a>, AllocError>
-    ensures { IfOk result (HasRules (with_filters (with_source (app_of command.entry)))
-        (out-Command command.entry).has_globals) }
+fn with_report_options<'a>(alloc: Global, command: Making<'a>) -> Making<'a>
+    ensures { (app : App) → IfOk command.entry (HasRules app)
+        → IfOk result (HasRules (with_filters (with_source app))) }
 {
-    let command = with_source(alloc, command)?;
-    let command = with_option(alloc, command, "focus", "NAME", FOCUS)?;
+    let command = with_source(alloc, command);
+    let command = with_option(alloc, command, "focus", "NAME", FOCUS);
     with_option(alloc, command, "ignore", "NAME", IGNORE)
 }
 
@@ -128,14 +140,12 @@ const BY: &str = "\
 const COUNT: &str = "How many names are listed at most; the total stays as it is";
 
 // The subcommand `top`.
-fn top_command<'a>(alloc: Global) -> Result<Command<'a>, AllocError>
-    ensures { IfOk result (HasRules top_app false) }
+fn top_command<'a>(alloc: Global) -> Making<'a>
+    ensures { IfOk result (HasRules top_app) }
 {
-    let command = Command::new(alloc, "top")
-        .about(ABOUT_TOP)
-        .after_help(AFTER_TOP);
-    let command = with_report_options(alloc, command)?;
-    let command = with_default(alloc, command, "by", "flat", "ORDER", BY)?;
+    let command = named(alloc, "top", ABOUT_TOP, AFTER_TOP);
+    let command = with_report_options(alloc, command);
+    let command = with_default(alloc, command, "by", "flat", "ORDER", BY);
     with_default(alloc, command, "count", "20", "NUMBER", COUNT)
 }
 
@@ -156,13 +166,11 @@ const COLUMNS: &str = "\
     How many columns the whole graph takes, 1 to 65535; a rectangle that takes none of them is left out";
 
 // The subcommand `flame`.
-fn flame_graph_command<'a>(alloc: Global) -> Result<Command<'a>, AllocError>
-    ensures { IfOk result (HasRules flame_graph_app false) }
+fn flame_graph_command<'a>(alloc: Global) -> Making<'a>
+    ensures { IfOk result (HasRules flame_graph_app) }
 {
-    let command = Command::new(alloc, "flame")
-        .about(ABOUT_FLAME)
-        .after_help(AFTER_FLAME);
-    let command = with_report_options(alloc, command)?;
+    let command = named(alloc, "flame", ABOUT_FLAME, AFTER_FLAME);
+    let command = with_report_options(alloc, command);
     with_default(alloc, command, "columns", "100", "NUMBER", COLUMNS)
 }
 
@@ -179,12 +187,10 @@ Examples:
   $ gunzip -c heap.pb.gz | flame fold --format pprof --value alloc_space | flamegraph.pl > heap.svg";
 
 // The subcommand `fold`.
-fn fold_command<'a>(alloc: Global) -> Result<Command<'a>, AllocError>
-    ensures { IfOk result (HasRules fold_app false) }
+fn fold_command<'a>(alloc: Global) -> Making<'a>
+    ensures { IfOk result (HasRules fold_app) }
 {
-    let command = Command::new(alloc, "fold")
-        .about(ABOUT_FOLD)
-        .after_help(AFTER_FOLD);
+    let command = named(alloc, "fold", ABOUT_FOLD, AFTER_FOLD);
     with_report_options(alloc, command)
 }
 
@@ -203,13 +209,11 @@ const KIND: &str = "The name of the profile's sample type; it changes no number"
 const UNIT: &str = "The unit of the profile's sample type; it changes no number";
 
 // The subcommand `proto`.
-fn proto_command<'a>(alloc: Global) -> Result<Command<'a>, AllocError>
-    ensures { IfOk result (HasRules proto_app false) }
+fn proto_command<'a>(alloc: Global) -> Making<'a>
+    ensures { IfOk result (HasRules proto_app) }
 {
-    let command = Command::new(alloc, "proto")
-        .about(ABOUT_PROTO)
-        .after_help(AFTER_PROTO);
-    let command = with_default(alloc, command, "kind", "samples", "KIND", KIND)?;
+    let command = named(alloc, "proto", ABOUT_PROTO, AFTER_PROTO);
+    let command = with_default(alloc, command, "kind", "samples", "KIND", KIND);
     with_default(alloc, command, "unit", "count", "UNIT", UNIT)
 }
 
@@ -239,15 +243,13 @@ const SESSIONS: &str = "\
     How many threads add stacks, 1 to 64, or 1 to 63 with --warm; it changes no report but the last line";
 
 // The subcommand `live`.
-fn live_command<'a>(alloc: Global) -> Result<Command<'a>, AllocError>
-    ensures { IfOk result (HasRules live_app false) }
+fn live_command<'a>(alloc: Global) -> Making<'a>
+    ensures { IfOk result (HasRules live_app) }
 {
-    let command = Command::new(alloc, "live")
-        .about(ABOUT_LIVE)
-        .after_help(AFTER_LIVE);
-    let command = with_source(alloc, command)?;
-    let command = with_flag(alloc, command, "all", ALL)?;
-    let command = with_flag(alloc, command, "warm", WARM)?;
+    let command = named(alloc, "live", ABOUT_LIVE, AFTER_LIVE);
+    let command = with_source(alloc, command);
+    let command = with_flag(alloc, command, "all", ALL);
+    let command = with_flag(alloc, command, "warm", WARM);
     with_default(alloc, command, "sessions", "2", "NUMBER", SESSIONS)
 }
 
@@ -261,7 +263,7 @@ Example:
   main;a;b 3";
 
 // The command `flame` without its subcommands.
-fn bare_command<'a>(alloc: Global) -> Result<Command<'a>, AllocError>
+fn bare_command<'a>(alloc: Global) -> Making<'a>
     ensures { IfOk result (λ command. app_of command ≡ flame_app) }
 {
     let command = Command::new(alloc, "flame")
@@ -272,25 +274,22 @@ fn bare_command<'a>(alloc: Global) -> Result<Command<'a>, AllocError>
     Ok(command)
 }
 
-// With a subcommand, where there was memory for it.
-fn with_subcommand<'a>(
-    command: Command<'a>,
-    subcommand: Result<Command<'a>, AllocError>,
-) -> Result<Command<'a>, AllocError>
-    ensures { (app : App) → IfOk subcommand.entry (HasRules app false)
-        → IfOk result (λ with. app_of with ≡ with_subcommand (app_of command.entry) app.top) }
+// With a subcommand.
+fn with_subcommand<'a>(command: Making<'a>, subcommand: Making<'a>) -> Making<'a>
+    ensures { (app sub : App) → IfOk command.entry (λ command. app_of command ≡ app)
+        → IfOk subcommand.entry (HasRules sub)
+        → IfOk result (λ with. app_of with ≡ with_subcommand app sub.top) }
 {
-    command.subcommand(subcommand?)
+    command?.subcommand(subcommand?)
 }
 
 /// The command `flame`, with its subcommands and their texts.
 pub(crate) fn command<'a>(alloc: Global) -> Result<Command<'a>, AllocError>
     ensures { IfOk result (λ command. app_of command ≡ program_app) }
 {
-    let command = bare_command(alloc)?;
-    let command = with_subcommand(command, top_command(alloc))?;
-    let command = with_subcommand(command, flame_graph_command(alloc))?;
-    let command = with_subcommand(command, fold_command(alloc))?;
-    let command = with_subcommand(command, proto_command(alloc))?;
+    let command = with_subcommand(bare_command(alloc), top_command(alloc));
+    let command = with_subcommand(command, flame_graph_command(alloc));
+    let command = with_subcommand(command, fold_command(alloc));
+    let command = with_subcommand(command, proto_command(alloc));
     with_subcommand(command, live_command(alloc))
 }

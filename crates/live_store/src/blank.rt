@@ -84,12 +84,15 @@ impl Blank {
             return Err(MakeFault::NoMemory);
         };
         let Some(history) = NewHistory::new() else {
+            drop(book);
             return Err(MakeFault::Place);
         };
         let Ok(first) = first_version(alloc, &book, history.reached()) else {
+            drop(book);
             return Err(MakeFault::NoMemory);
         };
         let Ok(versions) = new_writer(alloc, first, sessions as usize) else {
+            drop(book);
             return Err(MakeFault::Place);
         };
         Ok(Blank {

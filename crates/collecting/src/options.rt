@@ -70,21 +70,35 @@ fn options_in<'a>(alloc: Global, matches: &ArgMatches<'a>) -> Result<Options<'a>
 
 /// The command and its options.
 fn command<'a>(alloc: Global) -> Result<Command<'a>, AllocError> {
-    let command = Command::new(alloc, "collect").about(ABOUT);
-    let command = with_number(alloc, command, "window", "SECONDS", WINDOW)?;
-    let command = with_number(alloc, command, "rows", "NUMBER", ROWS)?;
-    let command = command.arg(option(alloc, "out", "FOLDER", OUT))?;
-    let command = with_number(alloc, command, "top", "NUMBER", TOP)?;
-    let command = with_number(alloc, command, "every", "SECONDS", EVERY)?;
+    let command = Ok(Command::new(alloc, "collect").about(ABOUT));
+    let command = with(command, number(alloc, "window", "SECONDS", WINDOW));
+    let command = with(command, number(alloc, "rows", "NUMBER", ROWS));
+    let command = with(command, option(alloc, "out", "FOLDER", OUT));
+    let command = with(command, number(alloc, "top", "NUMBER", TOP));
+    let command = with(command, number(alloc, "every", "SECONDS", EVERY));
     let ranks = &["flat", "cum"];
-    let command = command.arg(option(alloc, "by", "ORDER", BY).value_parser(ranks.as_slice()))?;
-    let command = command.arg(option(alloc, "value", "TYPE", VALUE))?;
+    let by = option(alloc, "by", "ORDER", BY).value_parser(ranks.as_slice());
+    let command = with(with(command, by), option(alloc, "value", "TYPE", VALUE));
     let source = Arg::new(alloc, "SOURCE")
         .required(true)
         .num_args(1..)
         .action(ArgAction::Append)
         .help(SOURCE);
-    command.arg(source)
+    with(command, source)
+}
+
+/// A command with one more option.
+fn with<'a>(
+    command: Result<Command<'a>, AllocError>,
+    option: Arg<'a>,
+) -> Result<Command<'a>, AllocError> {
+    match command {
+        Ok(command) => command.arg(option),
+        Err(fault) => {
+            drop(option);
+            Err(fault)
+        }
+    }
 }
 
 fn option<'a>(alloc: Global, id: &'a str, value_name: &'a str, help: &'a str) -> Arg<'a> {
@@ -94,14 +108,8 @@ fn option<'a>(alloc: Global, id: &'a str, value_name: &'a str, help: &'a str) ->
         .help(help)
 }
 
-/// With an option whose value is a number above 0.
-fn with_number<'a>(
-    alloc: Global,
-    command: Command<'a>,
-    id: &'a str,
-    value_name: &'a str,
-    help: &'a str,
-) -> Result<Command<'a>, AllocError> {
+/// An option whose value is a number above 0.
+fn number<'a>(alloc: Global, id: &'a str, value_name: &'a str, help: &'a str) -> Arg<'a> {
     let number = ValueParser::unsigned(1, u64::from(u32::MAX));
-    command.arg(option(alloc, id, value_name, help).value_parser(number))
+    option(alloc, id, value_name, help).value_parser(number)
 }

@@ -78,6 +78,7 @@ impl<'a> Output<'a> {
                 }
             }
         }
+        drop(closed);
     }
 
     /// Tells which files of folders are in written windows with all their rows, where windows are written.

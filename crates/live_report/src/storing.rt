@@ -42,10 +42,13 @@ pub(crate) fn store<N: StoreName, G: Gate, R: Threads + Wait + Sync>(
     let store = Store::<N>::start(blank);
     let logs = work(rt, alloc, &store, warm, lists, gate);
     let journal = store.close(rt);
-    Ok(Stored {
-        journal,
-        logs: logs?,
-    })
+    match logs {
+        Ok(logs) => Ok(Stored { journal, logs }),
+        Err(fault) => {
+            drop(journal);
+            Err(fault)
+        }
+    }
 }
 
 /// The logs of all sessions, that of the warm start first.

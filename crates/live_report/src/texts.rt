@@ -14,7 +14,7 @@ ghost use Rattle.live_report.specs.Live.{count_line, folded_at, live_text_of, re
 use crate::dealing::deal;
 use crate::fault::LiveFault;
 use crate::progress::{Progress, RowGate};
-use crate::storing::{Stored, is_warm, store};
+use crate::storing::{is_warm, store};
 use call_tree::CallTree;
 use flame_words::LiveOptions;
 use folded_text::write_ordered;
@@ -52,8 +52,10 @@ pub fn live_text<P: Progress, R: Threads + Wait + Sync>(
     let lists = deal(alloc, batch, options.sessions())?;
     let blank = blank_for(alloc, hashing, rows, width, options)?;
     let gate = gate_for(progress, rows, options);
-    let Stored { journal, logs } = store::<Brand, _, _>(rt, alloc, blank, warm, lists, &gate)?;
-    audited_text(alloc, hashing, &journal, &logs, options)
+    let stored = store::<Brand, _, _>(rt, alloc, blank, warm, lists, &gate)?;
+    let text = audited_text(alloc, hashing, &stored.journal, &stored.logs, options);
+    drop(stored);
+    text
 }
 
 /// The reports out of a journal, with the number of operations that its sessions' logs have, where these are together

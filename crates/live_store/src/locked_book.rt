@@ -156,7 +156,10 @@ impl<N: StoreName> LockedBook<N> {
         match self.book.prepare(alloc, log.number(), log.turn(), change) {
             Ok(ready) => match ready.share_next() {
                 Ok(tree) => Ok(self.commit(rt, front, log, ready, tree)),
-                Err(_) => Err(BookFault::NoMemory),
+                Err(_) => {
+                    drop(ready);
+                    Err(BookFault::NoMemory)
+                }
             },
             Err(fault) => Err(fault),
         }

@@ -242,6 +242,7 @@ impl<'a, N: StoreName> Session<'a, N> {
             Err(fault) => return Err(fault),
         };
         if !self.front.catch_up(&made.front) {
+            drop(made);
             return Err(BookFault::Version);
         }
         self.log.keep_report(made.receipt);

@@ -13,15 +13,15 @@ returns g c =
     let options = c.args.options in
     let batch : BatchState = arc_value c.args.batch in
     let lists : List (List PlainOp) = map (λ list. map plain_op list.items) c.in_ok-lists.lists.items in
-    let logs : List SessionLog = c.in_ok-journal.field-0.logs.items in
+    let logs : List SessionLog = c.in_ok-stored.stored.logs.items in
     let told : map (λ (log : SessionLog). ops_told log.receipts) logs
     ≡ warm_lists (cond options.warm (Some batch) None) ++ lists =
-    c.in_ok-journal.ensures.told ∙ ap (λ warm. warm_lists warm ++ lists) c.in_ok-warm.ensures in
+    c.in_ok-stored.ensures.told ∙ ap (λ warm. warm_lists warm ++ lists) c.in_ok-warm.ensures in
     let worked : AreLogsOf options batch logs = record {
       lists = lists;
       dealt = subst (λ (n : ℕ). AreDealt batch n lists) c.sessions.ensures.sessions c.in_ok-lists.ensures;
       told = told;
     } in
-    c.audited_text.ensures batch (ap (λ (b : BatchState). b.width) (sym c.deref-2.ensures)
-    ∙ sym c.width-width.ensures.width ∙ sym c.in_ok-blank.ensures.blank.2 ∙ sym c.in_ok-journal.ensures.width)
+    c.audited_text-text.ensures batch (ap (λ (b : BatchState). b.width) (sym c.deref-2.ensures)
+    ∙ sym c.width-width.ensures.width ∙ sym c.in_ok-blank.ensures.blank.2 ∙ sym c.in_ok-stored.ensures.width)
     (subst (AreLogsOf options batch) (sym c.deref-3.ensures.value) worked)

@@ -14,8 +14,7 @@ import sys
 ROOT = pathlib.Path(__file__).resolve().parent.parent
 PROCESSORS = len(os.sched_getaffinity(0))
 # The crates that run worked rows, which no user calls.
-OF_WORKED_ROWS = (
-    "row_scripts", "spelled_rows", "profile_steps", "book_steps", "store_steps", "program_steps", "worked_rows")
+OF_WORKED_ROWS = ("row_scripts", "library_steps", "store_steps", "worked_rows")
 
 
 @dataclasses.dataclass

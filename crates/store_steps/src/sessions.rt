@@ -1,11 +1,10 @@
 //! What a session of a store does in a step.
 
-use book_steps::{batch_of, op_of, query_of};
+use library_steps::{add_answer, add_stacks, batch_of, op_of, query_of};
 use profile_store::{
     Answer, Batch, BookFault, Op, Placed, Receipt, Reply, Session, StoreName, Told, Window,
 };
 use row_scripts::{Made, Words, Wrong};
-use spelled_rows::{add_answer, add_stacks};
 use std::alloc::Global;
 use std::sync::{Arc, Wait};
 

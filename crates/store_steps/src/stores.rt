@@ -4,10 +4,9 @@ ghost use Rattle.std.specs.Prelude.{◌≡◌};
 
 use crate::sessions::{Deed, hold, take, tell_number};
 use crate::{walks, windows, workers};
-use book_steps::run_closed;
+use library_steps::{run_closed, width_of};
 use profile_store::{Blank, Hashing, MakeFault, Session, SessionLog, Store, StoreName, Told};
 use row_scripts::{Checker, Made, Script, Step, Words, Wrong, next_step};
-use spelled_rows::width_of;
 use std::marker::Brand;
 use std::sync::Wait;
 use std::thread::Threads;

@@ -4,7 +4,7 @@
 use crate::gates::{add_one, come};
 use crate::sessions::{Deed, run_op};
 use crate::stores::Room;
-use book_steps::{batch_of, query_of};
+use library_steps::{batch_of, query_of};
 use profile_store::{Batch, Op, Placed, Query, Session, SessionLog, StoreName};
 use row_scripts::{Made, Words};
 use std::alloc::Global;

@@ -3,7 +3,7 @@
 use crate::gates::{add_one, come};
 use crate::sessions::{Deed, add_often};
 use crate::stores::Room;
-use book_steps::batch_of;
+use library_steps::batch_of;
 use profile_store::{Batch, Session, StoreName};
 use row_scripts::{Made, Wrong};
 use std::alloc::Global;

@@ -3,10 +3,9 @@
 use crate::gates::Counting;
 use crate::sessions::Deed;
 use crate::stores::Room;
-use book_steps::op_of;
+use library_steps::{numbers_of, op_of};
 use profile_store::{FinishedWorker, Op, StoreName, Ungated, WorkersFault, run_workers};
 use row_scripts::{Made, Words, Wrong, first_line};
-use spelled_rows::numbers_of;
 use std::sync::Wait;
 use std::thread;
 use std::thread::Threads;

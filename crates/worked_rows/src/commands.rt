@@ -1,9 +1,11 @@
 //! The commands by their first words.
 
-use book_steps::{compare_receipts, run_book};
-use profile_steps::run_tree;
-use program_steps::{Streams, run_program, tell_faults};
-use row_scripts::{Checker, Script, Step, Words};
+use crate::faults::tell_faults;
+use crate::program::Run;
+use crate::streams::Streams;
+use crate::{hashes, live, sources};
+use library_steps::{compare_receipts, run_book, run_tree};
+use row_scripts::{Checker, Made, Script, Step, Words, Wrong};
 use std::random::RandomSource;
 use std::sync::Wait;
 use std::thread::Threads;
@@ -86,7 +88,7 @@ fn run_command<R: Threads + Wait + RandomSource + Clock + Sync>(
     } else if runs_program(name) {
         run_program(rt, checker, *streams, words);
     } else if needs_host(name) {
-        program_steps::run_command(rt, words, checker.input.bytes(), &mut checker.made);
+        run_on_host(rt, words, checker.input.bytes(), &mut checker.made);
     } else {
         run_call(checker, streams, words);
     }
@@ -96,8 +98,46 @@ fn runs_program(name: &str) -> bool {
     matches!(name, "flame" | "as" | "both" | "each" | "process" | "read")
 }
 
+/// Runs a command that runs the program.
+fn run_program<R: Threads + Wait + RandomSource + Sync>(
+    rt: &R,
+    checker: &mut Checker,
+    streams: Streams,
+    words: Words,
+) {
+    let run = Run {
+        rt,
+        alloc: checker.alloc,
+        streams,
+        input: checker.input.bytes(),
+    };
+    let made = &mut checker.made;
+    match words.word(0) {
+        "flame" => run.once(words.text, made),
+        "as" => run.once(words.rest(1).text, made),
+        "process" => run.process(words, made),
+        "read" => run.read(made),
+        _ => run.often(words, &checker.names, made),
+    }
+}
+
 fn needs_host(name: &str) -> bool {
     matches!(name, "hashes" | "live" | "sources")
+}
+
+/// Runs a command that needs threads, time or random bytes.
+fn run_on_host<R: Threads + Wait + RandomSource + Clock + Sync>(
+    rt: &R,
+    words: Words,
+    input: &[u8],
+    made: &mut Made,
+) {
+    match words.word(0) {
+        "hashes" => hashes::compare(rt, input, made),
+        "live" => live::run_live(rt, words, input, made),
+        "sources" => sources::fill(rt, input, made),
+        _ => made.fail(Wrong::Command),
+    }
 }
 
 /// Runs a command that names something, changes the streams, or is a call of the library.
@@ -108,6 +148,6 @@ fn run_call(checker: &mut Checker, streams: &mut Streams, words: Words) {
         "reader" | "writer" | "flush" | "limit" | "random" => streams.set(words, made),
         "faults" => tell_faults(words, made),
         "same" => compare_receipts(input, made),
-        _ => profile_steps::run_command(words, input, made),
+        _ => library_steps::run_command(words, input, made),
     }
 }

@@ -6,6 +6,12 @@
 #![tactic(auto)]
 
 mod commands;
+mod faults;
+mod hashes;
+mod live;
+mod program;
+mod sources;
+mod streams;
 
 use crate::commands::run_script;
 use anyhow::Result;

@@ -1,6 +1,6 @@
 //! What `live` writes: `live sessions 2 all warm`.
 
-use book_steps::batch_of;
+use library_steps::batch_of;
 use live_report::{LiveOptions, Progress, live_text};
 use profile_store::{Batch, Hashing};
 use row_scripts::{Made, Words, Wrong};

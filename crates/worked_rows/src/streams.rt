@@ -52,7 +52,7 @@ fn strike(fault: &mut Option<Fault>, place: usize) -> io::Result<()> {
 
 /// How the streams of a run behave.
 #[derive(Clone, Copy)]
-pub struct Streams {
+pub(crate) struct Streams {
     /// How many bytes a read gives at most.
     by: usize,
     read_fault: Option<Fault>,
@@ -67,7 +67,7 @@ pub struct Streams {
 
 impl Streams {
     /// Streams that never fail.
-    pub fn new() -> Streams {
+    pub(crate) fn new() -> Streams {
         Streams {
             by: usize::MAX,
             read_fault: None,
@@ -81,7 +81,7 @@ impl Streams {
 
     /// Changes what the words name: `reader by 1`, `reader fails at 3`, `writer takes 5`, `writer fails from 2`,
     /// `flush fails`, `limit 10`, `random fails`.
-    pub fn set(&mut self, words: Words, made: &mut Made) {
+    pub(crate) fn set(&mut self, words: Words, made: &mut Made) {
         match (words.word(0), words.word(1)) {
             ("reader", "by") => self.by = made.number(words.word(2)),
             ("reader", "fails") => self.read_fault = Fault::read(words, made),

@@ -1,9 +1,9 @@
 //! Batches: rows that are read, lent, given away and put together, each in every public way.
 
 use crate::reports;
+use crate::rows::{add_folded, width_of};
 use profile_rows::aggregate_stacks;
 use row_scripts::{Made, Words, Wrong};
-use spelled_rows::{add_folded, width_of};
 use stack_text::{
     Batch, FoldedFault, Hashing, LineSums, NoMemory, OrderedRows, OwnedRow, Stack, WeightedStacks,
     Weights, aggregate, export_folded, folded_totals, merge_lines, read_folded, read_folded_with,
@@ -44,7 +44,7 @@ pub(crate) fn run(words: Words, input: &[u8], made: &mut Made) {
 
 fn run_rows(asked: Asked, made: &mut Made) {
     let width = width_of(asked.words, made);
-    let batch = spelled_rows::batch_of(width, asked.input, made);
+    let batch = crate::rows::batch_of(width, asked.input, made);
     run_batch(asked, &batch, made);
     drop(batch);
 }

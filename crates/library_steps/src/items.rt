@@ -1,9 +1,9 @@
 //! Lists and texts of messages, which give back what they are made of.
 
+use crate::rows::numbers_of;
 use flame_report::Items;
 use pprof_profile::Text;
 use row_scripts::{Made, Words, Wrong};
-use spelled_rows::numbers_of;
 
 /// `items push 8`, `items reserve 100`: the numbers of the input as a list, with one more or with room for more.
 pub(crate) fn make_items(words: Words, input: &[u8], made: &mut Made) {

@@ -4,10 +4,10 @@ ghost use Rattle.std.specs.Prelude.{◌≡◌};
 
 use crate::journals::run_closed;
 use crate::operations::{op_of, place_of};
+use crate::rows::width_of;
 use call_tree::CallTree;
 use op_book::{Book, Change, Op, Ready, Receipt};
 use row_scripts::{Checker, Made, Scene, Script, Step, Words, Wrong, run_steps};
-use spelled_rows::width_of;
 
 /// Opens a book, and runs the steps that drive it.
 pub fn run_scene(checker: &mut Checker, script: &mut Script, step: &Step) {

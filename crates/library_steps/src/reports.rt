@@ -1,10 +1,10 @@
 //! Reports: one query over one list of rows, answered in each public way.
 
 use crate::batches::Asked;
+use crate::queries::{KINDS, add_answer, counts_names, kind_name, query_of, top_answer};
 use crate::trees;
 use flame_report::{Answer, Query, report_in_order, report_of, report_of_stacks};
 use row_scripts::{Made, Wrong};
-use spelled_rows::{KINDS, add_answer, counts_names, kind_name, query_of, top_answer};
 use stack_text::{
     Batch, FrameTotals, Hashing, LineSums, WeightedStacks, folded_totals, kept_totals, merge_lines,
     read_ordered,

@@ -25,7 +25,7 @@ fn tell_memory(made: &mut Made) {
 
 /// `faults memory`, `faults live`, `faults end`: what calls answer that are out of memory, what `live` makes of each
 /// cause, and how the program ends by each fault of a store.
-pub fn tell_faults(words: Words, made: &mut Made) {
+pub(crate) fn tell_faults(words: Words, made: &mut Made) {
     match words.word(1) {
         "memory" => tell_memory(made),
         "live" => tell_causes(made),

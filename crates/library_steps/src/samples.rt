@@ -1,9 +1,10 @@
 //! Samples of profiles as rows, and rows as profiles.
 
 use crate::profiles::{read_profile, say_profile};
+use crate::queries::{add_answer, query_of, top_answer};
+use crate::rows::{add_values, width_of};
 use pprof_profile::Profile;
 use row_scripts::{Made, Words, Wrong};
-use spelled_rows::{add_answer, add_values, query_of, top_answer, width_of};
 use stack_text::{
     Batch, FrameTotals, Hashing, Name, ValueChoice, ValueUnit, batch_of, batch_of_with,
     export_folded, merge_samples, profile_of, read_folded, sample_totals, unfold, write_stacks,
@@ -134,7 +135,7 @@ fn units_of<'a>(words: Words<'a>, made: &mut Made) -> Vec<ValueUnit<'a>> {
 pub(crate) fn export(words: Words, input: &[u8], made: &mut Made) {
     if words.has("width") {
         let width = width_of(words, made);
-        export_rows(words, &spelled_rows::batch_of(width, input, made), made);
+        export_rows(words, &crate::rows::batch_of(width, input, made), made);
     } else if words.has("rows") {
         export_folded_rows(words, input, made);
     } else {

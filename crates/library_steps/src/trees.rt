@@ -4,10 +4,11 @@ ghost use Rattle.std.specs.Prelude.{◌≡◌, IfSome, IsTrue};
 ghost use Rattle.call_tree.specs.Plans.{HasRoomFor};
 
 use crate::reports::Given;
+use crate::rows::{stack_of, width_of};
+use crate::stacks::add_stacks;
 use call_tree::{CallTree, Grower, Plan};
 use flame_report::report;
 use row_scripts::{Checker, Made, Scene, Script, Step, Words, Wrong, run_steps};
-use spelled_rows::{add_stacks, stack_of, width_of};
 use stack_text::{Batch, Hashing, NoMemory, first_heavy, read_folded};
 use std::alloc::Global;
 use std::mem;
@@ -129,7 +130,7 @@ impl Growing {
     fn grow(&mut self, words: Words, input: &[u8], made: &mut Made) {
         let width = self.grower.tree().width();
         if width.get() > 1 {
-            let rows = spelled_rows::batch_of(width, input, made);
+            let rows = crate::rows::batch_of(width, input, made);
             return grow(&mut self.grower, words, rows, made);
         }
         match read_folded(made.alloc(), input) {
@@ -207,7 +208,7 @@ fn credit(grower: &mut Grower, plan: Plan, words: Words, made: &mut Made)
 }
 
 fn add_total(tree: &CallTree, made: &mut Made) {
-    spelled_rows::add_total(&tree.total(), made);
+    crate::rows::add_total(&tree.total(), made);
 }
 
 /// `weigh`, `weigh of share`: what each stack weighs alone.

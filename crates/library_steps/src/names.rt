@@ -1,8 +1,8 @@
 //! Names, stacks and numbers with limits.
 
+use crate::rows::{names_of, stack_of, values_of};
 use flame_report::{Columns, Label};
 use row_scripts::{Made, Words, Wrong, first_line};
-use spelled_rows::{names_of, stack_of, values_of};
 use stack_text::{Name, Stack, Weights, Width};
 
 /// `name`: the input as a name. One that is kept, and the label of a copy, have its text.

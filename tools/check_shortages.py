@@ -28,7 +28,7 @@ CLAUSE = re.compile(r"\b(?:ensures|requires|struct|enum)\b[^{;]*\{")
 FROM = re.compile(r"impl(?:<[^\n]*>)? From<(?:NoMemory|AllocError|AllocFailed<T>)> for \w+ \{")
 # What stands around a type, and around a pattern or a function's name.
 TYPE_BEFORE = re.compile(r"(?:, |<|\w: |for )$")
-TYPE_AFTER = re.compile(r"> |>\)|>,?$|>>|\)? -> |\)\s+(?:ensures|\{)", re.MULTILINE)
+TYPE_AFTER = re.compile(r"> |>\)|>[,;]?$|>>|\)? -> |\)\s+(?:ensures|\{)", re.MULTILINE)
 PATTERN_BEFORE = re.compile(r" \| $|\bfn $")
 PATTERN_AFTER = re.compile(r"\)*(?: =>| \| | if )")
 # The arm that hands on what it met.

@@ -146,7 +146,7 @@ fn audit_logs(words: Words, journal: &Journal, logs: &[SessionLog], made: &mut M
 }
 
 /// Adds the steps of a run in a line, or, `listed`, each in its own; where they are `counted` only their number.
-pub fn tell_verdict(words: Words, verdict: Result<Run, AuditFault>, made: &mut Made) {
+fn tell_verdict(words: Words, verdict: Result<Run, AuditFault>, made: &mut Made) {
     match verdict {
         Ok(run) => {
             tell_run(words, &run, made);

@@ -8,15 +8,15 @@ use row_scripts::{Made, Words, Wrong};
 use stack_text::{FrameTotals, Name, NoMemory};
 
 /// The kinds of reports, of which `report each` asks one after the other.
-pub const KINDS: [&str; 5] = ["total", "flat", "cum", "folded", "flame"];
+pub(crate) const KINDS: [&str; 5] = ["total", "flat", "cum", "folded", "flame"];
 
 /// The kind of report that is the second word, or the order of a top list.
-pub fn kind_name<'a>(words: Words<'a>) -> &'a str {
+pub(crate) fn kind_name<'a>(words: Words<'a>) -> &'a str {
     words.after("by").unwrap_or(words.word(1))
 }
 
 /// A query of this kind, with the limits and filters that the words have.
-pub fn query_of(words: Words, kind: &str, made: &mut Made) -> Query {
+pub(crate) fn query_of(words: Words, kind: &str, made: &mut Made) -> Query {
     Query {
         focus: name_after(words, "focus", made),
         ignore: name_after(words, "ignore", made),
@@ -62,12 +62,12 @@ fn name_after(words: Words, key: &str, made: &mut Made) -> Option<Name> {
 }
 
 /// Whether a query asks for a list of names.
-pub fn counts_names(query: &Query) -> bool {
+pub(crate) fn counts_names(query: &Query) -> bool {
     matches!(query.kind, Kind::Top { .. })
 }
 
 /// The answer to a query that asks for a list of names, by their totals, or else for the total.
-pub fn top_answer(query: &Query, totals: FrameTotals) -> Result<Answer, NoMemory> {
+pub(crate) fn top_answer(query: &Query, totals: FrameTotals) -> Result<Answer, NoMemory> {
     match query.kind {
         Kind::Top { rank, count } => top_list(totals, rank, count).map(Answer::Top),
         _ => Ok(Answer::Total(totals.total)),
@@ -75,7 +75,7 @@ pub fn top_answer(query: &Query, totals: FrameTotals) -> Result<Answer, NoMemory
 }
 
 /// The answer `3`, to a query that asks for the total.
-pub fn total_answer(total: u64) -> Answer {
+pub(crate) fn total_answer(total: u64) -> Answer {
     Answer::Total(total)
 }
 
@@ -105,9 +105,10 @@ fn add_layout(flame: &Flame, made: &mut Made) {
         add_rect(rect, made);
     }
     if let Some(json) = made.done(flame_json(made.alloc(), flame)) {
-        let count = json.matches("\"depth\":").count();
-        made.agree("flame_json", count == rects.len());
-        drop(json);
+        made.agree(
+            "flame_json",
+            json.matches("\"depth\":").count() == rects.len(),
+        );
     }
 }
 

@@ -16,7 +16,7 @@ pub fn width_of(words: Words, made: &mut Made) -> Width {
 }
 
 /// The names of a stack. Empty ones count nothing.
-pub fn names_of(frames: &str, made: &mut Made) -> Vec<Name> {
+pub(crate) fn names_of(frames: &str, made: &mut Made) -> Vec<Name> {
     let mut names = Vec::new(made.alloc());
     for frame in frames.split(';') {
         if !frame.is_empty() {
@@ -34,7 +34,7 @@ fn add_name(frame: &str, names: &mut Vec<Name>, made: &mut Made) {
 }
 
 /// The stack of frames that are joined by semicolons.
-pub fn stack_of(frames: &str, made: &mut Made) -> Option<Stack> {
+pub(crate) fn stack_of(frames: &str, made: &mut Made) -> Option<Stack> {
     let stack = Stack::make(names_of(frames, made));
     made.done(stack)
 }
@@ -44,7 +44,7 @@ fn ends_number(ch: char) -> bool {
 }
 
 /// The values of a row.
-pub fn values_of(line: &str, made: &mut Made) -> Vec<u64> {
+pub(crate) fn values_of(line: &str, made: &mut Made) -> Vec<u64> {
     let (_, list) = line.rsplit_once('[').unwrap_or(("", ""));
     numbers_of(list, made)
 }
@@ -62,28 +62,26 @@ pub fn numbers_of(text: &str, made: &mut Made) -> Vec<u64> {
 }
 
 /// Adds a row to a batch, or tells why it is refused, and how many frames come back.
-pub fn push_row(batch: &mut Batch, frames: &str, weights: Weights, made: &mut Made) {
-    if let Some(stack) = stack_of(frames, made) {
-        if let Err(refused) = batch.push(stack, weights) {
-            made.refuse(&refused.fault);
-            made.say(&format_args!("back {} frames", refused.back.names().len()));
-            drop(refused);
-        }
+pub(crate) fn push_row(batch: &mut Batch, frames: &str, weights: Weights, made: &mut Made) {
+    let Some(stack) = stack_of(frames, made) else {
+        return;
+    };
+    if let Err(refused) = batch.push(stack, weights) {
+        made.refuse(&refused.fault);
+        made.say(&format_args!("back {} frames", refused.back.names().len()));
     }
 }
 
 fn push_line(batch: &mut Batch, line: &str, made: &mut Made) {
     let (frames, _) = line.rsplit_once('[').unwrap_or(("", ""));
-    let values = values_of(line, made);
-    match Weights::make(values.as_slice()) {
+    match Weights::make(values_of(line, made).as_slice()) {
         Some(weights) => push_row(batch, frames.trim_end(), weights, made),
         None => made.fail(Wrong::Line),
     }
-    drop(values);
 }
 
 /// The batch of rows with values in brackets. It tells of those that the batch refuses.
-pub fn batch_of(width: Width, input: &[u8], made: &mut Made) -> Batch {
+pub(crate) fn batch_of(width: Width, input: &[u8], made: &mut Made) -> Batch {
     let mut batch = Batch::new(made.alloc(), width);
     for line in made.text_of(input).lines() {
         push_line(&mut batch, line, made);
@@ -97,7 +95,7 @@ pub fn add_total(total: &Weights, made: &mut Made) {
 }
 
 /// Adds a batch as folded text by each of its values, one after the other.
-pub fn add_values(batch: &Batch, made: &mut Made) {
+pub(crate) fn add_values(batch: &Batch, made: &mut Made) {
     let alloc = made.alloc();
     for value in 0..batch.width().get() {
         made.add_made(write_folded(alloc, batch, value));
@@ -105,7 +103,7 @@ pub fn add_values(batch: &Batch, made: &mut Made) {
 }
 
 /// The same, and its total.
-pub fn add_folded(batch: &Batch, made: &mut Made) {
+pub(crate) fn add_folded(batch: &Batch, made: &mut Made) {
     add_values(batch, made);
     add_total(&batch.total(), made);
 }

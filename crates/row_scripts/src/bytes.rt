@@ -211,7 +211,6 @@ fn add_times(text: &str, bytes: &mut Made) {
     for _ in 0..bytes.number::<u64>(count) {
         bytes.add(once.bytes());
     }
-    drop(once);
 }
 
 /// Which numbers a form goes through, one after the other: `10` for those below it, `5..10`, and `10..5` downwards.

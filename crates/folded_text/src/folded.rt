@@ -6,12 +6,13 @@ ghost use Rattle.std.specs.Str.Parse.{IsNumeral, digits_value};
 ghost use Rattle.folded_text.specs.FoldedText.{GivesBatch, HasCount, HasWeight, IsCountFault, IsFittingFault};
 ghost use Rattle.folded_text.specs.FoldedText.{IsLineFault, IsRowAfter};
 ghost use Rattle.profile_rows.specs.Names.{IsName};
+ghost use Rattle.name_counts.specs.NumberedRows.{HasReplaced};
 ghost use Rattle.profile_rows.specs.Rows.{total_of};
 
 use crate::taking::{LineTaker, take_lines};
 use basics::NoMemory;
-use name_counts::KnownNames;
-use ordered_rows::{measured, replace_by_text};
+use name_counts::{KnownNames, NumberedRow};
+use ordered_rows::{TextFrames, measured, replace_by_text};
 use profile_rows::{Batch, Hashing, MAX_DEPTH, MAX_TOTAL, Stack, WeightedStacks};
 use simdutf8::basic;
 use std::alloc::Global;
@@ -139,6 +140,32 @@ pub fn read_frames<'a>(
         return Err(FoldedFault::NoMemory);
     };
     fitting(frames.len(), weight, earlier, number)?;
+    Ok(weight)
+}
+
+/// As [`read_frames`], and the frames take the place of those of a row whose names are numbered.
+///
+/// # Errors
+///
+/// Those of [`read_frames`].
+pub fn read_row(
+    row: &mut NumberedRow,
+    line: &[u8],
+    earlier: u64,
+    number: u64,
+) -> Result<u64, FoldedFault>
+    requires one_line { All (λ byte. byte ≢ 10) line.now }
+    requires earlier { earlier < 2 ^ 63 }
+    ensures { MatchResult result (λ weight. HasReplaced row.new.frames row.old row.new × IsRowAfter earlier line.now
+        (record { stack = row.new.frames; weight = weight }))
+        (IsLineFault earlier number line.now) }
+{
+    let (stack, weight) = stack_and_weight(line, number)?;
+    let Ok(()) = row.replace(&mut TextFrames::of(stack)) else {
+        fitting(measured(stack).0, weight, earlier, number)?;
+        return Err(FoldedFault::NoMemory);
+    };
+    fitting(row.numbers().len(), weight, earlier, number)?;
     Ok(weight)
 }
 

@@ -10,7 +10,7 @@ mod text_rows;
 mod text_totals;
 mod written;
 
-pub use folded::{FoldedFault, read_folded, read_folded_with, read_frames};
+pub use folded::{FoldedFault, read_folded, read_folded_with, read_frames, read_row};
 pub use line_sums::{AddedLines, LineSums};
 pub use merged::{merge_lines, read_ordered};
 pub use taking::{LineTaker, take_lines};

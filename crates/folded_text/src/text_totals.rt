@@ -10,23 +10,18 @@ ghost use Rattle.folded_text.specs.FoldedText.{GivesOfRows, IsLineFault, IsRowLi
 ghost use Rattle.ordered_rows.specs.SpelledRows.{IsStackText, spelled_rows};
 ghost use Rattle.folded_text.specs.TextSums.{AreCounted};
 
-use crate::folded::{FoldedFault, read_frames};
+use crate::folded::{FoldedFault, read_row};
 use crate::taking::{LineTaker, take_lines};
 use crate::text_rows::TextRows;
 use basics::NoMemory;
+use bumpalo::Bump;
 use name_counts::CountedRows;
 use ordered_rows::count_rows;
 use profile_rows::{FrameTotals, Hashing};
 use std::alloc::Global;
 
-/// Counts the row that a line spells, where it spells one that can follow the others. Its frames take the place of
-/// others in the buffer.
-fn count_line<'a>(
-    rows: &mut CountedRows<'a>,
-    frames: &mut Vec<&'a str>,
-    line: &'a [u8],
-    number: u64,
-) -> Result<(), FoldedFault>
+/// Counts the row that a line spells, where it spells one that can follow the others.
+fn count_line(rows: &mut CountedRows, line: &[u8], number: u64) -> Result<(), FoldedFault>
     requires one_line { All (λ byte. byte ≢ 10) line.now }
     requires counted { (before : List WeightedStack) × HasCounted before rows.old × (total_of before < 2 ^ 63) }
     ensures { MatchResult result (λ done. (before : List WeightedStack) → HasCounted before rows.old
@@ -34,8 +29,8 @@ fn count_line<'a>(
         × HasCounted (before ++ row ∷ []) rows.new)
         (IsLineFault rows.old.tallies.total number line.now) }
 {
-    let weight = read_frames(frames, line, rows.total(), number)?;
-    Ok(rows.count(frames.as_slice(), weight)?)
+    let weight = read_row(&mut rows.row, line, rows.tallies.total, number)?;
+    Ok(rows.count_row(weight)?)
 }
 
 /// How many stack texts wait before it is looked at whether that saves work.
@@ -51,7 +46,7 @@ fn saves_work(texts: u64, lines: u64, bytes: usize) -> bool {
 }
 
 /// A text whose rows are counted by the names of their frames. Those of one stack text wait to be counted together, as
-/// long as that saves work. The frames of a row take the place of others in the buffer.
+/// long as that saves work.
 #[derive(Drop)]
 struct Counting<'a> {
     /// The rows that wait. There are none once rows are counted.
@@ -61,12 +56,11 @@ struct Counting<'a> {
     /// How many bytes the lines so far have.
     bytes: usize,
     counted: CountedRows<'a>,
-    frames: Vec<&'a str>,
 }
 
 impl<'a> Counting<'a> {
-    /// No line yet. `hashing` says how names and stack texts are hashed.
-    fn new(alloc: Global, hashing: Hashing) -> Counting<'a>
+    /// No line yet. Names will be copied into `arena`, and `hashing` says how they and stack texts are hashed.
+    fn new(alloc: Global, hashing: Hashing, arena: &'a Bump) -> Counting<'a>
         ensures { AreCounted result.waiting result.counted [] }
     {
         let waiting = TextRows::new(alloc, hashing);
@@ -74,8 +68,7 @@ impl<'a> Counting<'a> {
             waiting: Some(waiting),
             weighty: 0,
             bytes: 0,
-            counted: CountedRows::new(alloc, hashing),
-            frames: Vec::new(alloc),
+            counted: CountedRows::new(alloc, hashing, arena),
         }
     }
 
@@ -92,7 +85,7 @@ impl<'a> Counting<'a> {
             → OnOk result ((self.new.waiting ≡ None) × HasCounted merged self.new.counted) }
     {
         if let Some(sums) = self.waiting.take() {
-            count_rows(&mut self.counted, &mut self.frames, sums.rows())?;
+            count_rows(&mut self.counted, sums.rows())?;
         }
         Ok(())
     }
@@ -115,7 +108,7 @@ impl<'a> LineTaker<'a> for Counting<'a> {
     fn take_line(&mut self, line: &'a [u8], number: u64) -> Result<(), FoldedFault> {
         self.bytes = self.bytes.saturating_add(line.len());
         let Some(sums) = &mut self.waiting else {
-            return count_line(&mut self.counted, &mut self.frames, line, number);
+            return count_line(&mut self.counted, line, number);
         };
         let before = sums.total();
         sums.sum_line(line, number)?;
@@ -146,7 +139,8 @@ pub fn folded_totals(
 ) -> Result<FrameTotals, FoldedFault>
     ensures { GivesOfRows text.now AreTotalsOf result }
 {
-    let mut counting = Counting::new(alloc, hashing);
+    let arena = Bump::new(alloc);
+    let mut counting = Counting::new(alloc, hashing, &arena);
     take_lines(text, &mut counting)?;
     Ok(counting.totals(alloc)?)
 }

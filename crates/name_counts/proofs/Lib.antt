@@ -1,4 +1,3 @@
-pub mod CommonPrefix
 pub mod NumberedRows
 pub mod TallyLaws
 pub mod TextNumbers

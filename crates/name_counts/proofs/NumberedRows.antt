@@ -5,33 +5,29 @@ use Rattle.std.proofs.Common.{length, map, take, drop, get_or, refl, sym, ap, �
 use Rattle.std.proofs.Common.{replicate}
 use Rattle.std.proofs.Common.{None}
 use Rattle.std.specs.Prelude.{MatchOption, slice_get, slice_index_or}
-use Rattle.std.specs.List.{AllByRecursion, IsDistinct, common_prefix_len, list_any}
+use Rattle.std.specs.List.{AllByRecursion, IsDistinct, list_any}
 use Rattle.std.specs.Str.{bytes_eq}
-use Rattle.std.proofs.lemmas.List.{get_or-drop, get_or-take, get_or_append_left, length-append, length-drop, length-map}
+use Rattle.std.proofs.lemmas.List.{get_or-map, get_or_append_left, length-append, length-map, take-append-le}
 use Rattle.std.proofs.lemmas.List.{append-nil, append_assoc, length-replicate, length-take-le, map-append, take_all}
 use Rattle.std.proofs.lemmas.List.{take_more}
 use Rattle.std.proofs.lemmas.List.Elements.{All-head, All-push, All-tail, All-weaker, recursion_from_All}
 use Rattle.std.proofs.Math.Seq.{get_or-append_seam}
-use Rattle.std.proofs.lemmas.Option.{slice_get-get_or}
+use Rattle.std.proofs.lemmas.Option.{get_or_from_slice_get, slice_get-get_or, slice_get_within}
 use Rattle.std.proofs.lemmas.Cmp.{nat_list_eq_equiv}
 use Rattle.std.proofs.lemmas.Map.Keys.{IsDistinct-push}
-use denote.Ref.{Bor}
+use Rattle.profile_rows.specs.declared.hashing.Hashing.{Hashing}
 use Rattle.name_counts.specs.declared.tallies.Tallies.{Tallies}
 use Rattle.name_counts.specs.declared.tallies.Tally.{Tally}
 use Rattle.profile_rows.specs.declared.weighted_stacks.WeightedStack.{WeightedStack}
 use Rattle.profile_rows.specs.Names.{IsName}
 use Rattle.name_counts.specs.Tallies.{AreSingle, AreTalliesOf, IsNumberedStack, IsTallyOf}
 use Rattle.name_counts.specs.Tallies.{tally_at, tally_of}
-use Rattle.name_counts.specs.TextTables.{names_at, no_text, number_in, with_text, with_texts}
-use Rattle.name_counts.specs.NumberedRows.{IsNumberOfText}
+use Rattle.name_counts.specs.TextTables.{names_at, number_in, with_text, with_texts}
+use Rattle.name_counts.specs.NumberedRows.{HasFrameAt, HasReplaced, IsBeginning, IsNumberOfText, NumberedFrames}
 use Rattle.name_counts.proofs.TallyLaws.{zero_tally}
-use Rattle.name_counts.proofs.TextNumbers.{any_push, number_in-kept, number_in-lt, shown_at, text_of}
-use Rattle.name_counts.proofs.TextNumbers.{there_inside}
+use Rattle.name_counts.proofs.TextNumbers.{any_push, next_with, number_in-kept, number_in-lt, there_inside}
 use Rattle.name_counts.proofs.TextNumbers.{text_of_number, with_text-there}
 use Rattle.profile_rows.proofs.SameNames.{is_same_name-self, same_from_is_same_name}
-
-abbrev texts_of : List (Bor (List ℕ)) → List (List ℕ)
-texts_of = map text_of
 
 -- ---- a name more
 
@@ -200,49 +196,100 @@ name_numbered old new before after frame number names number_is numbers inside =
     ∙ names_at-with old frame before (recursion_from_All (λ n. n < length old) before inside))
     ∙ ap (λ name. names_at old before ++ name ∷ []) (added_name old new frame number names number_is)
 
--- what two lists of texts share from their beginnings
-pub shared_same : (left right : List (List ℕ)) → take (common_prefix_len bytes_eq left right) left
-    ≡ take (common_prefix_len bytes_eq left right) right
-shared_same [] [] = refl
-shared_same [] (text ∷ right) = refl
-shared_same (text ∷ left) [] = refl
-shared_same (text ∷ left) (other ∷ right) =
-    let shared = common_prefix_len bytes_eq left right in
-    let next : 1 + shared ≡ suc shared = omega arith in
-    elim (bytes_eq text other) as (λ b. bytes_eq text other ≡ b
-    → take (cond b (1 + common_prefix_len bytes_eq left right) 0) (text ∷ left)
-    ≡ take (cond b (1 + common_prefix_len bytes_eq left right) 0) (other ∷ right)) [
-      | true ↦ λ e. ap (λ n. take n (text ∷ left)) next
-          ∙ ap (λ first. first ∷ take shared left) (same_from_is_same_name text other e)
-          ∙ ap (λ rest. other ∷ rest) (shared_same left right) ∙ ap (λ n. take n (other ∷ right)) (sym next)
-      | false ↦ λ e. refl
-    ] refl
-
 -- ---- a row's frames
 
--- one frame more of those after the first
-pub next_frame : (frames rest : List (Bor (List ℕ))) (shared i : ℕ)
-    → rest ≡ take (length frames - shared) (drop shared frames) → i < length rest → shared ≤ length frames
-    → take (shared + (i + 1)) (texts_of frames)
-    ≡ take (shared + i) (texts_of frames) ++ (get_or rest i no_text).now ∷ []
-next_frame frames rest shared i is lt within =
-    let some = ap length is ∙ length-take-le
-    (length frames - shared) (drop shared frames) (let left = length-drop shared frames in omega (arith, left)) in
-    let inside : shared + i < length frames = omega (arith, some, lt, within) in
-    let long = length-map frames (λ (frame : Bor (List ℕ)). frame.now) in
-    let next : shared + (i + 1) ≡ shared + i + 1 = omega arith in
-    ap (λ n. take n (texts_of frames)) next
-    ∙ take_more (texts_of frames) (shared + i) [] (omega (arith, inside, long))
-    ∙ ap (λ name. take (shared + i) (texts_of frames) ++ name ∷ []) (shown_at frames (shared + i) no_text
-    ∙ ap (λ (frame : Bor (List ℕ)). frame.now)
-    (sym (ap (λ fs. get_or fs i no_text) is ∙ get_or-take (length frames - shared)
-    (drop shared frames) i no_text (omega (arith, inside, within)) ∙ get_or-drop shared frames i no_text)))
+abbrev pub numbered : List (List ℕ) → List ℕ → Hashing → NumberedFrames
+numbered texts numbers hashing = record { texts = texts; frames = names_at texts numbers; hashing = hashing }
 
-pub all_frames : (frames rest : List (Bor (List ℕ))) (shared i : ℕ)
-    → rest ≡ take (length frames - shared) (drop shared frames)
-    → length rest ≤ i → shared ≤ length frames → take (shared + i) (texts_of frames) ≡ texts_of frames
-all_frames frames rest shared i is end within =
-    grind (arith, common_steps, length-drop, length-map, length-take-le, take_all)
+-- a frame that stands at a depth
+pub frame_there : (texts : List (List ℕ)) (numbers : List ℕ) (hashing : Hashing) (depth number : ℕ) (frame : List ℕ)
+    → All (IsNumberOfText texts) numbers → slice_get numbers depth ≡ Some number
+    → slice_index_or texts number [] ≡ frame → length numbers < 2 ^ 63
+    → HasFrameAt depth frame (numbered texts numbers hashing) (numbered texts numbers hashing)
+frame_there texts numbers hashing depth number frame are some named short =
+    let name_of : ℕ → List ℕ = λ n. slice_index_or texts n [] in
+    let lt = slice_get_within numbers depth number some in
+    let at = get_or_from_slice_get numbers depth number 0 some in
+    let is = subst (IsNumberOfText texts) at (are depth 0 lt) in
+    let inside = subst (λ n. depth < n) (sym (length-map numbers name_of)) lt in
+    record {
+      names = sym (with_text-there texts frame
+          (subst (λ n. n < length texts) (sym (ap (number_in texts) (sym named) ∙ is.own)) is.inside));
+      inside = inside;
+      fits = omega (arith, lt, short);
+      frames = take_more (names_at texts numbers) depth [] inside
+          ∙ ap (λ name. take depth (names_at texts numbers) ++ name ∷ [])
+          (get_or-map name_of numbers depth 0 [] lt ∙ ap name_of at ∙ named);
+    }
+
+-- a frame that comes after all others
+pub frame_pushed : (old new : List (List ℕ)) (before after : List ℕ) (was is : Hashing) (frame : List ℕ) (number : ℕ)
+    → new ≡ with_text old frame → number ≡ number_in new frame → after ≡ before ++ number ∷ []
+    → All (IsNumberOfText old) before → length before < 2 ^ 63
+    → HasFrameAt (length (names_at old before)) frame (numbered old before was) (numbered new after is)
+frame_pushed old new before after was is frame number names number_is numbers are short =
+    let first = names_at old before in
+    let long = length-map before (λ n. slice_index_or old n []) in
+    let all = name_numbered old new before after frame number names number_is numbers (are_inside old before are) in
+    let many = length-append first (frame ∷ []) in
+    record {
+      names = names;
+      inside = subst (λ ns. length first < length ns) (sym all) (omega (arith, many));
+      fits = omega (arith, long, short);
+      frames = ap (take (length first + 1)) all ∙ take_all (length first + 1) (first ++ frame ∷ []) (omega (arith, many))
+          ∙ ap (λ ns. ns ++ frame ∷ []) (sym (take_all (length first) first (omega arith)));
+    }
+
+-- a frame that comes after those that are kept
+pub set_frame : (depth : ℕ) (frame : List ℕ) (row kept after : NumberedFrames) → depth ≤ length row.frames
+    → kept ≡ record row { frames = take depth row.frames } → HasFrameAt (length kept.frames) frame kept after
+    → HasFrameAt depth frame row after
+set_frame depth frame row kept after within is there =
+    let first = ap (λ (r : NumberedFrames). r.frames) is in
+    let many = ap length first ∙ length-take-le depth row.frames within in
+    let short = length-take-le depth row.frames within in
+    record {
+      names = there.names ∙ ap (λ (r : NumberedFrames). with_text r.texts frame) is;
+      inside = subst (λ n. n < length after.frames) many there.inside;
+      fits = subst (λ n. n < 2 ^ 63) many there.fits;
+      frames = ap (λ n. take (n + 1) after.frames) (sym many) ∙ there.frames
+          ∙ ap (λ names. names ++ frame ∷ []) (ap (λ n. take n kept.frames) many ∙ ap (take depth) first
+          ∙ take_all depth (take depth row.frames) (omega (arith, short)));
+    }
+
+-- a frame more of those that replace others
+pub next_replaced : (start : List (List ℕ)) (row next : NumberedFrames) (depth : ℕ) (frame : List ℕ)
+    (all left rest : List (List ℕ)) → row.texts ≡ with_texts start (take depth row.frames)
+    → take depth row.frames ++ left ≡ all → left ≡ frame ∷ rest → HasFrameAt depth frame row next
+    → (next.texts ≡ with_texts start (take (depth + 1) next.frames)) × (take (depth + 1) next.frames ++ rest ≡ all)
+next_replaced start row next depth frame all left rest names frames first there = (
+  next_with start row.texts next.texts (take depth row.frames) (take (depth + 1) next.frames) frame
+      there.names names there.frames,
+  ap (λ ns. ns ++ rest) there.frames ∙ append_assoc (take depth row.frames) (frame ∷ []) rest
+      ∙ ap (λ ns. take depth row.frames ++ ns) (sym first) ∙ frames,
+)
+
+-- all frames in the place of others
+pub all_replaced : (start row kept : NumberedFrames) (depth : ℕ) (all left : List (List ℕ))
+    → row.texts ≡ with_texts start.texts (take depth row.frames) → take depth row.frames ++ left ≡ all
+    → left ≡ [] → kept ≡ record row { frames = take depth row.frames } → HasReplaced all start kept
+all_replaced start row kept depth all left names frames none is =
+    let these : take depth row.frames ≡ all =
+    sym (append-nil (take depth row.frames)) ∙ ap (λ ns. take depth row.frames ++ ns) (sym none) ∙ frames in
+    record {
+      names = ap (λ (r : NumberedFrames). r.texts) is ∙ names ∙ ap (with_texts start.texts) these;
+      frames = ap (λ (r : NumberedFrames). r.frames) is ∙ these;
+    }
+
+-- the frames that replaced others before memory ran out
+pub first_replaced : (row : NumberedFrames) (depth : ℕ) (all left now : List (List ℕ)) → depth ≤ length row.frames
+    → take depth row.frames ++ left ≡ all → now ≡ take depth row.frames → IsBeginning now all
+first_replaced row depth all left now within frames is =
+    let many = length-take-le depth row.frames within in (
+      depth,
+      is ∙ sym (take_all depth (take depth row.frames) (omega (arith, many)))
+          ∙ sym (take-append-le depth (take depth row.frames) left (omega (arith, many))) ∙ ap (take depth) frames,
+    )
 
 -- the last number and those before it
 last_of : (numbers : List ℕ) → MatchOption (slice_get numbers (length numbers - 1))

@@ -8,7 +8,7 @@ use Rattle.name_counts.specs.declared.tallies.Tally.{Tally}
 use Rattle.profile_rows.specs.declared.weighted_stacks.WeightedStack.{WeightedStack}
 use Rattle.profile_rows.specs.Names.{IsName, is_same_name}
 use Rattle.profile_rows.specs.Rows.{has_name, total_of, flat_weight_of, cumulative_weight_of}
-use Rattle.name_counts.specs.TextTables.{names_at, number_in}
+use Rattle.name_counts.specs.TextTables.{names_at, number_in, with_texts}
 
 -- ---- names by numbers
 
@@ -73,3 +73,8 @@ pub record AreTalliesOf (rows : List WeightedStack) (names : List (List ℕ)) (t
 -- these rows are counted
 abbrev pub HasCounted : List WeightedStack → CountedRows → Type 0
 HasCounted rows counted = AreTalliesOf rows counted.row.texts counted.tallies
+
+-- these rows are counted, and the frames of a row more stand there, whose names may be new
+abbrev pub HasRowToCount : List WeightedStack → CountedRows → Type 0
+HasRowToCount rows counted = (names : List (List ℕ)) × AreTalliesOf rows names counted.tallies
+    × (counted.row.texts ≡ with_texts names counted.row.frames)

@@ -5,12 +5,14 @@ ghost use Rattle.std.specs.Option.{option_copied};
 ghost use Rattle.profile_rows.specs.declared.weighted_stacks.WeightedStack.{WeightedStack};
 ghost use Rattle.profile_rows.specs.Names.{IsName};
 ghost use Rattle.profile_rows.specs.Rows.{kept_rows};
-ghost use Rattle.name_counts.specs.Tallies.{HasCounted};
+ghost use Rattle.name_counts.specs.Tallies.{HasCounted, HasRowToCount};
 ghost use Rattle.profile_rows.specs.TopList.{AreTotalsOf};
 
+use crate::frame_source::{FrameSource, ListedFrames};
 use crate::numbered_row::NumberedRow;
 use crate::tallies::Tallies;
 use basics::NoMemory;
+use bumpalo::Bump;
 use profile_rows::{FrameTotals, Hashing, Name, WeightedStack, WeightedStacks, keeps};
 use std::alloc::{AllocError, Global};
 
@@ -24,16 +26,35 @@ pub struct CountedRows<'a> {
 }
 
 impl<'a> CountedRows<'a> {
-    /// No row yet, and `hashing` says how names will be hashed. Takes no memory.
-    pub fn new(alloc: Global, hashing: Hashing) -> CountedRows<'a>
+    /// No row yet. Names will be copied into `arena`, and `hashing` says how they will be hashed. Takes no memory.
+    pub fn new(alloc: Global, hashing: Hashing, arena: &'a Bump) -> CountedRows<'a>
         ensures counted { HasCounted [] result }
         ensures hashing { result.row.hashing ≡ hashing }
     {
         let names = Vec::new(alloc);
         CountedRows {
-            row: NumberedRow::new(alloc, hashing),
+            row: NumberedRow::new(alloc, hashing, arena),
             tallies: Tallies { names, total: 0 },
         }
+    }
+
+    /// Counts the row whose frames stand in `row`, names of which may be new.
+    ///
+    /// # Errors
+    ///
+    /// `NoMemory`; the rows are then of no use.
+    pub fn count_row(&mut self, weight: u64) -> Result<(), NoMemory>
+        requires fits { self.old.tallies.total + weight < 2 ^ 63 }
+        requires names { All IsName self.old.row.frames }
+        requires counted { (rows : List WeightedStack) × HasRowToCount rows self.old }
+        ensures { (rows : List WeightedStack) → HasRowToCount rows self.old
+            → OnOk result
+            (HasCounted (rows ++ (record { stack = self.old.row.frames; weight = weight }) ∷ []) self.new) }
+    {
+        self.tallies.reach(self.row.names().texts().len())?;
+        let numbers = self.row.numbers();
+        self.tallies.count(numbers, numbers.last().copied(), weight);
+        Ok(())
     }
 
     /// Counts a row more, of these frames, root first.
@@ -41,20 +62,20 @@ impl<'a> CountedRows<'a> {
     /// # Errors
     ///
     /// `NoMemory`; the rows are then of no use.
-    pub fn count(&mut self, frames: &[&'a str], weight: u64) -> Result<(), NoMemory>
+    pub fn count<'f, F: FrameSource<'f>>(
+        &mut self,
+        frames: &mut F,
+        weight: u64,
+    ) -> Result<(), NoMemory>
         requires fits { self.old.tallies.total + weight < 2 ^ 63 }
-        requires names { All IsName (map (λ frame. frame.now) frames.now) }
+        requires names { All IsName (F.left frames.old) }
         requires counted { (rows : List WeightedStack) × HasCounted rows self.old }
         ensures { (rows : List WeightedStack) → HasCounted rows self.old
             → OnOk result
-            (HasCounted (rows ++ (record { stack = map (λ frame. frame.now) frames.now; weight = weight }) ∷ [])
-            self.new) }
+            (HasCounted (rows ++ (record { stack = F.left frames.old; weight = weight }) ∷ []) self.new) }
     {
         self.row.replace(frames)?;
-        self.tallies.reach(self.row.names().texts().len())?;
-        let numbers = self.row.numbers();
-        self.tallies.count(numbers, numbers.last().copied(), weight);
-        Ok(())
+        self.count_row(weight)
     }
 
     /// What the rows weigh together.
@@ -105,7 +126,7 @@ fn count_batch_row<'a>(
         → OnOk result (HasCounted (before ++ row.now ∷ []) rows.new) }
 {
     replace_by_names(frames, row.stack.names())?;
-    rows.count(frames.as_slice(), row.weight)
+    rows.count(&mut ListedFrames::of(frames.as_slice()), row.weight)
 }
 
 /// What the names weigh in the rows that have the focus, where there is one, and not the ignored name, where there is
@@ -124,7 +145,8 @@ pub fn kept_totals(
     ensures { IfOk result
         (AreTotalsOf (kept_rows (option_copied focus.entry) (option_copied ignored.entry) batch.now)) }
 {
-    let mut rows = CountedRows::new(alloc, hashing);
+    let arena = Bump::new(alloc);
+    let mut rows = CountedRows::new(alloc, hashing, &arena);
     let mut frames = Vec::new(alloc);
     for row in batch.rows() {
         if keeps(row, focus, ignored) {

@@ -3,12 +3,14 @@
 #![tactic(auto)]
 
 mod counted_rows;
+mod frame_source;
 mod known_names;
 mod numbered_row;
 mod tallies;
 mod text_table;
 
 pub use counted_rows::{CountedRows, kept_totals, replace_by_names};
+pub use frame_source::{FrameSource, ListedFrames};
 pub use known_names::KnownNames;
 pub use numbered_row::NumberedRow;
 pub use tallies::{Tallies, Tally};

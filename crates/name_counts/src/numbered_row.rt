@@ -1,13 +1,13 @@
 //! The frames of a row by the numbers of their names.
 
-ghost use Rattle.std.specs.Prelude.{◌≡◌, ◌<◌, ◌^◌, ◌++◌, ◌∷◌, [], All, OnErr, OnOk, length, map, take, ℕ};
-ghost use Rattle.std.specs.List.{take_while, zip};
-ghost use Rattle.std.specs.Str.{bytes_eq};
-ghost use Rattle.name_counts.specs.NumberedRows.{SharesFrames};
-ghost use Rattle.name_counts.specs.TextTables.{lent_at, names_at, number_in, with_text, with_texts};
+ghost use Rattle.std.specs.Prelude.{◌≡◌, ◌<◌, ◌≤◌, ◌^◌, [], All, IsTrue, MatchResult, length, map, take};
+ghost use Rattle.name_counts.specs.NumberedRows.{HasFrameAt, HasReplaced, IsBeginning};
+ghost use Rattle.name_counts.specs.TextTables.{names_at, number_in, with_text};
 
+use crate::frame_source::FrameSource;
 use crate::text_table::TextTable;
 use basics::NoMemory;
+use bumpalo::Bump;
 use profile_rows::Hashing;
 use std::alloc::Global;
 use std::marker::Model;
@@ -16,6 +16,8 @@ use std::marker::Model;
 /// at the same places, and these aren't looked up again. A contract sees the names, the frames and the hashing.
 #[derive(Drop)]
 pub struct NumberedRow<'a> {
+    /// Copies of the names, next to one another.
+    arena: &'a Bump,
     names: TextTable<'a>,
     numbers: Vec<usize>,
 }
@@ -36,25 +38,14 @@ impl<'a> Model for NumberedRow<'a> {
     ghost invariant = { λ row. All (IsNumberOfText row.names.texts) row.numbers.items };
 }
 
-/// How many frames a row shares from its root with one whose names have these numbers.
-fn shared_frames(texts: &[&str], numbers: &[usize], frames: &[&str]) -> usize
-    requires { All (λ number. number < length texts.now) numbers.now }
-    ensures { result ≡ length (take_while (λ pair. bytes_eq (lent_at texts.now pair.0) pair.1.now)
-        (zip numbers.now frames.now)) }
-{
-    numbers
-        .iter()
-        .zip(frames)
-        .take_while(|(number, frame)| texts[**number] == **frame)
-        .count()
-}
-
 impl<'a> NumberedRow<'a> {
-    /// No name yet and no frame, and `hashing` says how names will be hashed. Takes no memory.
-    pub fn new(alloc: Global, hashing: Hashing) -> NumberedRow<'a>
+    /// No name yet and no frame. Names will be copied into `arena`, and `hashing` says how they will be hashed. Takes no
+    /// memory.
+    pub fn new(alloc: Global, hashing: Hashing, arena: &'a Bump) -> NumberedRow<'a>
         ensures { result ≡ record { texts = []; frames = []; hashing = hashing } }
     {
         NumberedRow {
+            arena,
             names: TextTable::new(alloc, hashing),
             numbers: Vec::new(alloc),
         }
@@ -77,23 +68,43 @@ impl<'a> NumberedRow<'a> {
         self.numbers.as_slice()
     }
 
-    /// Leaves the frames that others share with these from their roots, and says how many they are.
-    fn keep_shared(&mut self, frames: &[&str]) -> usize
-        ensures { SharesFrames self.old self.new frames.now result }
+    /// Whether the frame at this depth is this one.
+    fn is_at(&self, depth: usize, frame: &str) -> bool
+        ensures { IsTrue result → HasFrameAt depth frame.now self.now self.now }
     {
-        let shared = shared_frames(self.names.texts(), self.numbers.as_slice(), frames);
-        self.numbers.truncate(shared);
-        shared
+        match self.numbers.get(depth) {
+            Some(number) => self.names.texts()[*number] == frame,
+            None => false,
+        }
+    }
+
+    /// Leaves so many first frames.
+    fn keep(&mut self, depth: usize)
+        ensures { self.new ≡ record self.old { frames = take depth self.old.frames } }
+    {
+        self.numbers.truncate(depth);
     }
 
     /// Adds a frame.
-    fn push(&mut self, frame: &'a str) -> Result<(), NoMemory>
-        ensures names { OnOk result (self.new.texts ≡ with_text self.old.texts frame.now) }
-        ensures frames { OnOk result (self.new.frames ≡ self.old.frames ++ frame.now ∷ []) }
-        ensures kept { OnErr result (self.new.frames ≡ self.old.frames) }
+    fn push(&mut self, frame: &str) -> Result<(), NoMemory>
+        ensures { MatchResult result (λ done. HasFrameAt (length self.old.frames) frame.now self.old self.new)
+            (λ fault. self.new.frames ≡ self.old.frames) }
     {
-        let number = self.names.number_with(frame)?;
+        let number = self.names.number_with(self.arena, frame)?;
         Ok(self.numbers.push(number)?)
+    }
+
+    /// Puts a frame at this depth. Where it stands there, those after it stay, and its name isn't looked up.
+    fn set(&mut self, depth: usize, frame: &str) -> Result<(), NoMemory>
+        requires { depth ≤ length self.old.frames }
+        ensures { MatchResult result (λ done. HasFrameAt depth frame.now self.old self.new)
+            (λ fault. self.new.frames ≡ take depth self.old.frames) }
+    {
+        if self.is_at(depth, frame) {
+            return Ok(());
+        }
+        self.keep(depth);
+        self.push(frame)
     }
 
     /// Puts these frames, root first, in the place of those before, and looks up no name of the frames that both share
@@ -102,17 +113,16 @@ impl<'a> NumberedRow<'a> {
     /// # Errors
     ///
     /// `NoMemory`; the row then has the first of these frames, and none of those before that differ.
-    pub fn replace(&mut self, frames: &[&'a str]) -> Result<(), NoMemory>
-        ensures names { OnOk result
-            (self.new.texts ≡ with_texts self.old.texts (map (λ frame. frame.now) frames.now)) }
-        ensures frames { OnOk result (self.new.frames ≡ map (λ frame. frame.now) frames.now) }
-        ensures first { OnErr result ((count : ℕ)
-            × (self.new.frames ≡ take count (map (λ frame. frame.now) frames.now))) }
+    pub fn replace<'f, F: FrameSource<'f>>(&mut self, frames: &mut F) -> Result<(), NoMemory>
+        ensures { MatchResult result (λ done. HasReplaced (F.left frames.old) self.old self.new)
+            (λ fault. IsBeginning self.new.frames (F.left frames.old)) }
     {
-        let shared = self.keep_shared(frames);
-        for frame in &frames[shared..] {
-            self.push(*frame)?;
+        let mut depth = 0;
+        while let Some(frame) = frames.next_frame() {
+            self.set(depth, frame)?;
+            depth += 1;
         }
+        self.keep(depth);
         Ok(())
     }
 }

@@ -5,6 +5,7 @@ ghost use Rattle.std.specs.Prelude.{◌≡◌, ◌<◌, ◌^◌, [], IfOk, OnErr
 ghost use Rattle.name_counts.specs.TextTables.{number_in, with_text};
 
 use basics::NoMemory;
+use bumpalo::Bump;
 use indexmap::IndexSet;
 use profile_rows::Hashing;
 use std::alloc::Global;
@@ -69,13 +70,13 @@ impl<'a> TextTable<'a> {
         Ok(())
     }
 
-    /// The number of a text, which is added where it is missing.
+    /// The number of a text, of which a copy in the arena is added where it is missing.
     ///
     /// # Errors
     ///
     /// `NoMemory`; the table is then as it was.
     #[inline(always)]
-    pub fn number_with(&mut self, text: &'a str) -> Result<usize, NoMemory>
+    pub(crate) fn number_with(&mut self, arena: &'a Bump, text: &str) -> Result<usize, NoMemory>
         ensures texts { OnOk result (self.new.texts ≡ with_text self.old.texts text.now) }
         ensures number { IfOk result (λ number. number ≡ number_in (with_text self.old.texts text.now) text.now) }
         ensures fits { IfOk result (λ number. number < 2 ^ 63) }
@@ -83,7 +84,7 @@ impl<'a> TextTable<'a> {
     {
         let number = self.number_of(text);
         if number == self.texts.len() {
-            self.add(text)?;
+            self.add(arena.try_alloc_str(text)?)?;
         }
         Ok(number)
     }

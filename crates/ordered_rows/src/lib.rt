@@ -12,5 +12,5 @@ mod text_stacks;
 
 pub use counting::count_rows;
 pub use ordered_rows::OrderedRows;
-pub use stack_frames::{measured, replace_by_text};
+pub use stack_frames::{TextFrames, measured, replace_by_text};
 pub use text_row::TextRow;

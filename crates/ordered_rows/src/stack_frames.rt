@@ -1,23 +1,26 @@
 //! The frames of a stack text, one after the other.
 
-ghost use Rattle.std.specs.Prelude.{◌≡◌, ◌≢◌, ◌<◌, ◌++◌, ◌∷◌, [], All, MatchOption, OnOk, length, map};
+ghost use Rattle.std.specs.Prelude.{◌≡◌, ◌≢◌, ◌<◌, ◌++◌, All, OnOk, length, map};
+ghost use Rattle.profile_rows.specs.Names.{IsName};
 ghost use Rattle.ordered_rows.specs.StackFrames.{AreFrames, frame_in, frames_of};
 ghost use Rattle.ordered_rows.specs.SpelledRows.{IsMeasured};
 
 use bstr::ByteSlice;
+use name_counts::FrameSource;
 use std::alloc::AllocError;
 use std::marker::Model;
 
 /// The frames of a stack text, root first: the pieces between its semicolons, without the empty ones. They are lent
 /// from the text.
 #[derive(Drop)]
-pub(crate) struct Frames<'a> {
+pub struct TextFrames<'a> {
     rest: &'a str,
 }
 
-impl<'a> Model for Frames<'a> {
+impl<'a> Model for TextFrames<'a> {
     ghost use Rattle.std.specs.Prelude.{List, ℕ};
-    ghost use Rattle.ordered_rows.specs.StackFrames.{frames_of};
+    ghost use Rattle.profile_rows.specs.Names.{IsName};
+ghost use Rattle.ordered_rows.specs.StackFrames.{frames_of};
 
     ghost Value = { List (List ℕ) };
 
@@ -35,18 +38,20 @@ fn split_piece<'a>(text: &'a str) -> (&'a str, &'a str)
     }
 }
 
-impl<'a> Frames<'a> {
+impl<'a> TextFrames<'a> {
     /// The frames of this text.
-    pub fn of(text: &'a str) -> Frames<'a>
-        ensures { result ≡ frames_of text.now }
+    pub fn of(text: &'a str) -> TextFrames<'a>
+        ensures frames { result ≡ frames_of text.now }
+        ensures names { All (λ byte. byte ≢ 10) text.now → All IsName result }
     {
-        Frames { rest: text }
+        TextFrames { rest: text }
     }
+}
 
-    /// The next frame, while there is one.
-    pub fn next_frame(&mut self) -> Option<&'a str>
-        ensures { MatchOption result (self.old ≡ []) (λ frame. self.old ≡ frame.now ∷ self.new) }
-    {
+impl<'a> FrameSource<'a> for TextFrames<'a> {
+    ghost left = { λ frames. frames };
+
+    fn next_frame(&mut self) -> Option<&'a str> {
         while !self.rest.is_empty() {
             let (piece, rest) = split_piece(self.rest);
             self.rest = rest;
@@ -64,7 +69,7 @@ pub fn measured(text: &str) -> (usize, usize)
 {
     let mut depth = 0;
     let mut bytes = 0;
-    let mut rest = Frames::of(text);
+    let mut rest = TextFrames::of(text);
     while let Some(frame) = rest.next_frame() {
         depth += 1;
         bytes += frame.len();
@@ -82,7 +87,7 @@ pub fn replace_by_text<'a>(frames: &mut Vec<&'a str>, text: &'a str) -> Result<(
     ensures { OnOk result (AreFrames text.now (map (λ frame. frame.now) frames.new.items)) }
 {
     frames.clear();
-    let mut rest = Frames::of(text);
+    let mut rest = TextFrames::of(text);
     while let Some(frame) = rest.next_frame() {
         frames.push(frame)?;
     }

@@ -10,10 +10,11 @@ ghost use Rattle.ordered_rows.specs.StackFrames.{frames_of};
 ghost use Rattle.ordered_rows.specs.SpelledRows.{AreJoinedTexts, AreTextRows, IsStackText, spelled_rows};
 
 use crate::counting::count_rows;
-use crate::stack_frames::Frames;
+use crate::stack_frames::TextFrames;
 use crate::text_row::TextRow;
 use basics::NoMemory;
-use name_counts::CountedRows;
+use bumpalo::Bump;
+use name_counts::{CountedRows, FrameSource};
 use profile_rows::{FrameTotals, HasFrames, Hashing, Name, StackText, keeps};
 use std::alloc::Global;
 use std::marker::Model;
@@ -43,7 +44,7 @@ impl<'a> Model for TextStacks<'a> {
 fn text_has_frame(text: &str, name: &Name) -> bool
     ensures { result ≡ has_name name.now (frames_of text.now) }
 {
-    let mut frames = Frames::of(text);
+    let mut frames = TextFrames::of(text);
     while let Some(frame) = frames.next_frame() {
         if name.text() == frame {
             return true;
@@ -142,9 +143,9 @@ impl<'a> TextStacks<'a> {
     pub fn frame_totals(&self, alloc: Global, hashing: Hashing) -> Result<FrameTotals, NoMemory>
         ensures { IfOk result (AreTotalsOf self.now) }
     {
-        let mut counted = CountedRows::new(alloc, hashing);
-        let mut frames = Vec::new(alloc);
-        count_rows(&mut counted, &mut frames, self.rows.as_slice())?;
+        let arena = Bump::new(alloc);
+        let mut counted = CountedRows::new(alloc, hashing, &arena);
+        count_rows(&mut counted, self.rows.as_slice())?;
         counted.totals(alloc)
     }
 }

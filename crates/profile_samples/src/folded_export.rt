@@ -7,19 +7,19 @@ ghost use Rattle.folded_text.specs.FoldedText.{GivesOfRows};
 
 use crate::exporting::{ValueUnit, exported_draft};
 use basics::NoMemory;
-use folded_text::{FoldedFault, LineTaker, read_frames, take_lines};
+use bumpalo::Bump;
+use folded_text::{FoldedFault, LineTaker, read_row, take_lines};
 use name_counts::NumberedRow;
 use pprof_profile::{WrittenSamples, encode_around};
 use profile_rows::Hashing;
 use std::alloc::Global;
 
 /// Rows as the samples of the profile that they are exported as: written when they come, their names numbered as they
-/// first stand. The frames of a line, and their ids, take the place of others in the buffers.
+/// first stand. The ids of a line's frames take the place of others in the buffer.
 #[derive(Drop)]
 struct SampledRows<'a> {
     row: NumberedRow<'a>,
     samples: WrittenSamples,
-    frames: Vec<&'a str>,
     ids: Vec<u64>,
     total: u64,
 }
@@ -41,8 +41,7 @@ impl<'a> LineTaker<'a> for SampledRows<'a> {
     ghost is_of = { λ sampled rows. AreSamplesOf rows sampled.row.texts sampled.samples sampled.total };
 
     fn take_line(&mut self, line: &'a [u8], number: u64) -> Result<(), FoldedFault> {
-        let weight = read_frames(&mut self.frames, line, self.total, number)?;
-        self.row.replace(self.frames.as_slice())?;
+        let weight = read_row(&mut self.row, line, self.total, number)?;
         replace_ids(&mut self.ids, self.row.numbers())?;
         self.samples.push(self.ids.as_slice(), &[weight as i64])?;
         self.total += weight;
@@ -84,10 +83,10 @@ pub fn export_folded(
 ) -> Result<Vec<u8>, FoldedFault>
     ensures { GivesOfRows text.now (λ rows bytes. IsExportOf kind.now unit.now rows bytes.items) result }
 {
+    let arena = Bump::new(alloc);
     let mut rows = SampledRows {
-        row: NumberedRow::new(alloc, hashing),
+        row: NumberedRow::new(alloc, hashing, &arena),
         samples: WrittenSamples::new(alloc),
-        frames: Vec::new(alloc),
         ids: Vec::new(alloc),
         total: 0,
     };

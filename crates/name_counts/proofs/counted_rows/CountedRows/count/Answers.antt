@@ -1,46 +1,27 @@
--- The row's frames have their numbers, and its leaf's is the last.
-use Rattle.std.proofs.Common.{arith, ◌≡◌, ℕ, List, length, map, ap, ◌∙◌}
-use Rattle.std.proofs.lemmas.List.{length-map}
-use denote.Ref.{Bor}
-use Rattle.name_counts.specs.declared.tallies.Tallies.{Tallies}
-use Rattle.profile_rows.specs.declared.weighted_stacks.WeightedStack.{WeightedStack}
-use Rattle.name_counts.specs.Tallies.{AreTalliesOf}
-use Rattle.name_counts.specs.TextTables.{NumberedTexts, with_texts}
-use Rattle.name_counts.proofs.NumberedRows.{row_numbered}
-use Rattle.name_counts.proofs.TextNumbers.{text_of}
+-- The row stands there, and is counted.
+use Rattle.std.proofs.Common.{All, OnOk, ap, subst, sym, ◌++◌, ◌∷◌, ◌∙◌, []}
+use Rattle.profile_rows.specs.Names.{IsName}
+use Rattle.name_counts.specs.Tallies.{HasCounted}
+use Rattle.name_counts.specs.TextTables.{with_texts}
 use Rattle.name_counts.proofs.counted_rows.CountedRows.count.Goals as goal
 
--- the tallies reach all names, of which the row's may be new
-reached : (rows : List WeightedStack) (before frames after : List (List ℕ)) (table : NumberedTexts)
-    (lent : List (Bor (List ℕ))) (old new : Tallies) → after ≡ with_texts before frames → table.texts ≡ after
-    → map text_of lent ≡ table.texts → AreTalliesOf rows before old
-    → ((names more : List (List ℕ)) (rows : List WeightedStack) → length (with_texts names more) ≡ length lent
-    → AreTalliesOf rows names old → AreTalliesOf rows (with_texts names more) new)
-    → AreTalliesOf rows after new
-reached rows before frames after table lent old new names known texts are counted = grind (arith, length-map, text_of)
+pub count_row-requires-clause-fits : goal.count_row-requires-clause-fits
+count_row-requires-clause-fits g c = c.requires.fits
 
-pub count-requires-clause-counted : goal.count-requires-clause-counted
-count-requires-clause-counted c =
-    let (rows, this) = c.requires.counted in (
-      c.replace.new.self.texts,
-      rows,
-      map text_of c.args.frames.now,
-      reached rows c.args.self.now.row.texts (map text_of c.args.frames.now) c.replace.new.self.texts
-          c.names.result.now c.texts.result.now c.args.self.now.tallies c.reach.new.self
-          c.in_ok-replace.ensures.names (ap (λ (table : NumberedTexts). table.texts) c.names.ensures)
-          c.texts.ensures this c.in_ok-reach.ensures.counted,
-      row_numbered c.replace.new.self.texts (map text_of c.args.frames.now) c.numbers-numbers.result.now
-          c.copied.result (c.numbers-numbers.ensures.names ∙ c.in_ok-replace.ensures.frames)
-          c.numbers-numbers.ensures.inside c.requires.names (c.copied.ensures ∙ c.last.ensures.value),
-    )
+pub count_row-requires-clause-names : goal.count_row-requires-clause-names
+count_row-requires-clause-names g c = subst (All IsName) (sym c.in_ok-replace.ensures.frames) c.requires.names
+
+pub count_row-requires-clause-counted : goal.count_row-requires-clause-counted
+count_row-requires-clause-counted g c =
+    let (rows, this) = c.requires.counted in
+    let stands = c.in_ok-replace.ensures in
+    let texts = c.args.self.now.row.texts in
+    (rows, (texts, this, stands.names ∙ ap (with_texts texts) (sym stands.frames)))
 
 pub returns : goal.returns
-returns c = λ rows this.
-    c.count.ensures c.replace.new.self.texts rows (map text_of c.args.frames.now)
-    (reached rows c.args.self.now.row.texts (map text_of c.args.frames.now) c.replace.new.self.texts
-    c.names.result.now c.texts.result.now c.args.self.now.tallies c.reach.new.self
-    c.in_ok-replace.ensures.names (ap (λ (table : NumberedTexts). table.texts) c.names.ensures)
-    c.texts.ensures this c.in_ok-reach.ensures.counted)
-    (row_numbered c.replace.new.self.texts (map text_of c.args.frames.now) c.numbers-numbers.result.now
-    c.copied.result (c.numbers-numbers.ensures.names ∙ c.in_ok-replace.ensures.frames)
-    c.numbers-numbers.ensures.inside c.requires.names (c.copied.ensures ∙ c.last.ensures.value))
+returns g c = λ rows this.
+    let stands = c.in_ok-replace.ensures in
+    let texts = c.args.self.now.row.texts in
+    subst (λ stack. OnOk c.count_row.result
+    (HasCounted (rows ++ (record { stack = stack; weight = c.args.weight }) ∷ []) c.count_row.new.self)) stands.frames
+    (c.count_row.ensures rows (texts, this, stands.names ∙ ap (with_texts texts) (sym stands.frames)))

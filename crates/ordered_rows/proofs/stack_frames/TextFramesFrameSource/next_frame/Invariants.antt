@@ -1,6 +1,6 @@
 use Rattle.std.proofs.Common.{◌≡◌, length}
 use Rattle.ordered_rows.specs.StackFrames.{frames_of}
-use Rattle.ordered_rows.proofs.stack_frames.Frames.next_frame.Given as goal
+use Rattle.ordered_rows.proofs.stack_frames.TextFramesFrameSource.next_frame.Given as goal
 
 -- what was passed over has no frame
 abbrev pub invariant-loop-self : goal.invariant-loop-self

@@ -1,3 +1,4 @@
+pub mod CommonPrefix
 pub mod Held
 pub mod Listed
 pub mod Narrow

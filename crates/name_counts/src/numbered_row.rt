@@ -69,6 +69,7 @@ impl<'a> NumberedRow<'a> {
     }
 
     /// Whether the frame at this depth is this one.
+    #[inline(always)]
     fn is_at(&self, depth: usize, frame: &str) -> bool
         ensures { IsTrue result → HasFrameAt depth frame.now self.now self.now }
     {
@@ -86,6 +87,7 @@ impl<'a> NumberedRow<'a> {
     }
 
     /// Adds a frame.
+    #[inline(always)]
     fn push(&mut self, frame: &str) -> Result<(), NoMemory>
         ensures { MatchResult result (λ done. HasFrameAt (length self.old.frames) frame.now self.old self.new)
             (λ fault. self.new.frames ≡ self.old.frames) }
@@ -95,6 +97,7 @@ impl<'a> NumberedRow<'a> {
     }
 
     /// Puts a frame at this depth. Where it stands there, those after it stay, and its name isn't looked up.
+    #[inline(always)]
     fn set(&mut self, depth: usize, frame: &str) -> Result<(), NoMemory>
         requires { depth ≤ length self.old.frames }
         ensures { MatchResult result (λ done. HasFrameAt depth frame.now self.old self.new)

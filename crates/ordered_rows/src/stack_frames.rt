@@ -28,6 +28,7 @@ ghost use Rattle.ordered_rows.specs.StackFrames.{frames_of};
 }
 
 /// A text's first piece, and what stands after its semicolon: nothing where there is none.
+#[inline(always)]
 fn split_piece<'a>(text: &'a str) -> (&'a str, &'a str)
     ensures frames { frames_of text.now ≡ frame_in result.0.now ++ frames_of result.1.now }
     ensures shorter { 0 < length text.now → length result.1.now < length text.now }
@@ -51,6 +52,7 @@ impl<'a> TextFrames<'a> {
 impl<'a> FrameSource<'a> for TextFrames<'a> {
     ghost left = { λ frames. frames };
 
+    #[inline(always)]
     fn next_frame(&mut self) -> Option<&'a str> {
         while !self.rest.is_empty() {
             let (piece, rest) = split_piece(self.rest);

@@ -7,7 +7,7 @@ use Rattle.std.specs.List.{common_prefix_len, take_while, zip}
 use Rattle.std.specs.Ordering.{eq_by_cmp}
 use Rattle.std.specs.Str.{bytes_eq}
 use Rattle.std.proofs.lemmas.List.Sums.{common_prefix_len-le}
-use Rattle.name_counts.proofs.CommonPrefix.{pairs_alike}
+use Rattle.flame_report.proofs.CommonPrefix.{pairs_alike}
 use Rattle.name_counts.proofs.TextNumbers.{text_of}
 use Rattle.profile_rows.specs.Names.{name_cmp}
 use Rattle.flame_report.proofs.RowSums.{stack_at-get, known_at-back}

@@ -175,16 +175,6 @@ are_own texts [] are = refl
 are_own texts (number ∷ numbers) are =
     grind (arith, All-head, All-tail, are_own texts numbers (All-tail (IsNumberOfText texts) number numbers are))
 
--- texts of numbers are there
-pub are_known : (texts : List (List ℕ)) (numbers : List ℕ)
-    → All (IsNumberOfText texts) numbers → with_texts texts (names_at texts numbers) ≡ texts
-are_known texts [] are = refl
-are_known texts (number ∷ numbers) are =
-    let is = All-head (IsNumberOfText texts) number numbers are in
-    ap (λ ts. with_texts ts (names_at texts numbers)) (with_text-there texts (slice_index_or texts number [])
-    (subst (λ n. n < length texts) (sym is.own) is.inside))
-    ∙ are_known texts numbers (All-tail (IsNumberOfText texts) number numbers are)
-
 -- the name that a number more adds
 pub name_numbered : (old new : List (List ℕ)) (before after : List ℕ) (frame : List ℕ) (number : ℕ)
     → new ≡ with_text old frame → number ≡ number_in new frame → after ≡ before ++ number ∷ []

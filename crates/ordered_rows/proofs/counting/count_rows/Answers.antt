@@ -16,13 +16,18 @@ count-requires c =
     let row = c.row-item.result in
     let fits = follows rows at row c.loop-row-test.true c.requires.fits in
     let one_line = c.requires.spelled at row c.loop-row-test.true in
-    λ k. ((refl, (refl, tt)), (
-      grind (arith, common_steps, fits),
-      (c.of.ensures.names
-      (subst (All (λ byte. byte ≢ 10))
-      (sym (c.text.ensures ∙ ap (λ (row : TextState). row.text) c.row-item.is)) one_line.1),
-      (spelled_rows (take at rows), c.loop-row.invariant)),
-    ))
+    λ k. (
+      (refl, (refl, tt)),
+      (
+        grind (arith, common_steps, fits),
+        (
+          c.of.ensures.names
+              (subst (All (λ byte. byte ≢ 10))
+              (sym (c.text.ensures ∙ ap (λ (row : TextState). row.text) c.row-item.is)) one_line.1),
+          (spelled_rows (take at rows), c.loop-row.invariant),
+        ),
+      ),
+    )
 
 pub loop-row-preserved : goal.loop-row-preserved
 loop-row-preserved c =

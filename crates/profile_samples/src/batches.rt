@@ -113,5 +113,7 @@ pub fn batch_of_with(
 {
     let chosen = chosen_values(alloc, profile.draft(), choice, MAX_WIDTH)?;
     let frames = NumberedFrames::new(alloc, hashing, profile)?;
-    batch_by(alloc, profile, &frames, &chosen)
+    let batch = batch_by(alloc, profile, &frames, &chosen);
+    drop(frames);
+    batch
 }

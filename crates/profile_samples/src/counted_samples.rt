@@ -101,7 +101,10 @@ fn totals_of(
     let mut numbers = Vec::new(alloc);
     count_sums(frames, &mut tallies, &mut numbers, sums)?;
     let names = texts_of(alloc, frames.names())?;
-    tallies.totals(alloc, names.as_slice())
+    let totals = tallies.totals(alloc, names.as_slice());
+    drop(names);
+    drop(tallies);
+    totals
 }
 
 /// What the names weigh in the rows of a valid draft's samples by the values at an index, which are summed by their
@@ -141,8 +144,11 @@ pub fn sample_totals(
 {
     let draft = profile.draft();
     let chosen = chosen_value(alloc, draft, choice)?;
-    let frames = NumberedFrames::new(alloc, hashing, profile)?;
     let samples = draft.samples.by_list();
     let mut sums = LocationSums::new(alloc, &samples)?;
-    totals_by(alloc, draft, &frames, &samples, &mut sums, chosen)
+    let frames = NumberedFrames::new(alloc, hashing, profile)?;
+    let totals = totals_by(alloc, draft, &frames, &samples, &mut sums, chosen);
+    drop(frames);
+    drop(sums);
+    totals
 }

@@ -64,6 +64,23 @@ fn add_units<'a>(table: &mut TextTable<'a>, units: &[ValueUnit<'a>]) -> Result<(
     Ok(())
 }
 
+/// Adds the strings of a profile with these names where none stands.
+fn add_strings<'a>(
+    table: &mut TextTable<'a>,
+    units: &[ValueUnit<'a>],
+    names: &TextTable<'a>,
+) -> Result<(), NoMemory>
+    requires { table.old.texts ≡ [] }
+    ensures { OnOk result (table.new.texts ≡ strings_of (pairs_of units.now) names.now.texts) }
+{
+    table.add("")?;
+    add_units(table, units)?;
+    for name in names.texts() {
+        table.add(*name)?;
+    }
+    Ok(())
+}
+
 /// The strings of a profile with these names.
 fn strings_of<'a>(
     alloc: Global,
@@ -74,12 +91,13 @@ fn strings_of<'a>(
     ensures { IfOk result (λ strings. strings.texts ≡ strings_of (pairs_of units.now) names.now.texts) }
 {
     let mut strings = TextTable::new(alloc, hashing);
-    strings.add("")?;
-    add_units(&mut strings, units)?;
-    for name in names.texts() {
-        strings.add(*name)?;
+    match add_strings(&mut strings, units, names) {
+        Ok(()) => Ok(strings),
+        Err(fault) => {
+            drop(strings);
+            Err(fault)
+        }
     }
-    Ok(strings)
 }
 
 /// The id of a name's function and of its location.
@@ -172,7 +190,10 @@ fn samples_of(alloc: Global, names: &TextTable, batch: &Batch) -> Result<Samples
 {
     let mut samples = Samples::empty(alloc);
     for at in 0..batch.first().rows().len() {
-        samples.push(&sample_of(alloc, names, &batch.row(at))?)?;
+        let sample = sample_of(alloc, names, &batch.row(at))?;
+        let pushed = samples.push(&sample);
+        drop(sample);
+        pushed?;
     }
     Ok(samples)
 }
@@ -248,7 +269,9 @@ pub(crate) fn exported_draft(
     ensures { IfOk result (λ draft. draft ≡ exported_draft names.now.texts (pairs_of units.now)) }
 {
     let strings = strings_of(alloc, hashing, units, names)?;
-    draft_with(alloc, names, &strings, units)
+    let draft = draft_with(alloc, names, &strings, units);
+    drop(strings);
+    draft
 }
 
 /// The draft with these samples in place of its own.
@@ -270,8 +293,13 @@ fn draft_of(
         (strings_of (pairs_of units.now) names.now.texts) batch.now.rows (pairs_of units.now)) }
 {
     let samples = samples_of(alloc, names, batch)?;
-    let draft = exported_draft(alloc, hashing, names, units)?;
-    Ok(with_samples(draft, samples))
+    match exported_draft(alloc, hashing, names, units) {
+        Ok(draft) => Ok(with_samples(draft, samples)),
+        Err(fault) => {
+            drop(samples);
+            Err(fault)
+        }
+    }
 }
 
 /// The batch as a profile of a sample type for each value, whose kinds and units these are, in order: a sample for each
@@ -289,9 +317,13 @@ pub fn profile_of(alloc: Global, batch: &Batch, units: &[ValueUnit]) -> Result<P
 {
     let hashing = Hashing::fixed();
     let names = names_of(alloc, hashing, batch.first().rows())?;
-    let draft = draft_of(alloc, hashing, &names, batch, units)?;
-    match check(alloc, draft) {
+    let draft = draft_of(alloc, hashing, &names, batch, units);
+    drop(names);
+    match check(alloc, draft?) {
         Ok(profile) => Ok(profile),
-        Err(_) => Err(NoMemory),
+        Err(refused) => {
+            drop(refused);
+            Err(NoMemory)
+        }
     }
 }

@@ -1,6 +1,6 @@
 //! Folded text as the bytes of a profile, with no row and no sample kept.
 
-ghost use Rattle.std.specs.Prelude.{◌≡◌, ◌+◌, ◌^◌, ◌<◌, All, IfOk, List, OnOk, map, reverse};
+ghost use Rattle.std.specs.Prelude.{◌≡◌, ◌+◌, ◌^◌, ◌<◌, [], All, IfOk, List, OnOk, map, reverse};
 ghost use Rattle.profile_rows.specs.declared.weighted_stacks.WeightedStack.{WeightedStack};
 ghost use Rattle.profile_samples.specs.Export.{AreSamplesOf, IsExportOf};
 ghost use Rattle.folded_text.specs.FoldedText.{GivesOfRows};
@@ -63,7 +63,25 @@ fn profile_bytes(
 {
     let units = [ValueUnit { kind, unit }];
     let draft = exported_draft(alloc, hashing, rows.row.names(), &units)?;
-    encode_around(alloc, &draft, &rows.samples)
+    let bytes = encode_around(alloc, &draft, &rows.samples);
+    drop(draft);
+    bytes
+}
+
+/// The bytes of the profile of a text's rows, which are added to none.
+fn exported_bytes<'a>(
+    alloc: Global,
+    hashing: Hashing,
+    rows: &mut SampledRows<'a>,
+    text: &'a [u8],
+    kind: &str,
+    unit: &str,
+) -> Result<Vec<u8>, FoldedFault>
+    requires { AreSamplesOf [] rows.old.row.texts rows.old.samples rows.old.total }
+    ensures { GivesOfRows text.now (λ rows bytes. IsExportOf kind.now unit.now rows bytes.items) result }
+{
+    take_lines(text, rows)?;
+    Ok(profile_bytes(alloc, hashing, rows, kind, unit)?)
 }
 
 /// Folded text as a profile's bytes: those that [`encode`](pprof_profile::encode) gives of
@@ -90,6 +108,7 @@ pub fn export_folded(
         ids: Vec::new(alloc),
         total: 0,
     };
-    take_lines(text, &mut rows)?;
-    Ok(profile_bytes(alloc, hashing, &rows, kind, unit)?)
+    let bytes = exported_bytes(alloc, hashing, &mut rows, text, kind, unit);
+    drop(rows);
+    bytes
 }

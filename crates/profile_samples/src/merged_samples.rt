@@ -96,8 +96,11 @@ pub fn merge_samples(
 {
     let draft = profile.draft();
     let chosen = chosen_value(alloc, draft, choice)?;
-    let frames = NumberedFrames::new(alloc, hashing, profile)?;
     let samples = draft.samples.by_list();
     let mut sums = LocationSums::new(alloc, &samples)?;
-    merged_by(alloc, draft, &frames, &samples, &mut sums, chosen)
+    let frames = NumberedFrames::new(alloc, hashing, profile)?;
+    let merged = merged_by(alloc, draft, &frames, &samples, &mut sums, chosen);
+    drop(frames);
+    drop(sums);
+    merged
 }

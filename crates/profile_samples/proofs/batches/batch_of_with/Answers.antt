@@ -21,13 +21,13 @@ returns-in_err-frames c =
     (rw c.draft.ensures.draft at c.in_ok-chosen.ensures.chosen) c.in_ok-chosen.ensures.few
     (grind (arith, common_steps, err_from_is_err_and)))
 
-pub batch_by-requires-clause-typed : goal.batch_by-requires-clause-typed
-batch_by-requires-clause-typed c =
+pub batch_by-batch-requires-clause-typed : goal.batch_by-batch-requires-clause-typed
+batch_by-batch-requires-clause-typed c =
     chosen_types_within c.args.profile.now c.args.choice c.in_ok-chosen.chosen.first c.in_ok-chosen.chosen.width
     (rw c.draft.ensures.draft at c.in_ok-chosen.ensures.chosen)
 
 pub returns : goal.returns
 returns c =
-    gives_batch c.args.profile.now c.args.choice c.batch_by.result
-    (first_of_standing (IsBatchOf c.args.profile.now c.args.choice) 4 c.args.profile.now c.args.choice c.batch_by.result
-    (c.batch_by.ensures c.args.choice (rw c.draft.ensures.draft at c.in_ok-chosen.ensures.chosen)))
+    gives_batch c.args.profile.now c.args.choice c.batch_by-batch.result
+    (first_of_standing (IsBatchOf c.args.profile.now c.args.choice) 4 c.args.profile.now c.args.choice c.batch_by-batch.result
+    (c.batch_by-batch.ensures c.args.choice (rw c.draft.ensures.draft at c.in_ok-chosen.ensures.chosen)))

@@ -28,8 +28,8 @@ returns-in_err-sums c =
     (rw c.draft-draft.ensures.draft at c.in_ok-chosen.ensures)
     (omega arith) (grind (arith, common_steps, err_from_is_err_and)))
 
-pub totals_by-requires : goal.totals_by-requires
-totals_by-requires c =
+pub totals_by-totals-requires : goal.totals_by-totals-requires
+totals_by-totals-requires c =
     ready_to_sum c.args.profile.now c.draft-draft.result.now c.in_ok-frames.frames c.args.choice
     c.in_ok-chosen.chosen c.by_list-samples.result c.in_ok-sums.sums c.draft-draft.ensures.draft
     c.draft-draft.ensures.valid c.in_ok-frames.ensures c.in_ok-chosen.ensures c.by_list-samples.ensures
@@ -37,6 +37,6 @@ totals_by-requires c =
 
 pub returns : goal.returns
 returns c =
-    gives_totals c.args.profile.now c.args.choice c.totals_by.result
+    gives_totals c.args.profile.now c.args.choice c.totals_by-totals.result
     (first_of_work (AreTotalsOfSamples c.args.profile.now c.args.choice) c.args.profile.now c.args.choice
-    c.totals_by.result (rw c.draft-draft.ensures.draft at (c.totals_by.ensures c.args.choice c.in_ok-chosen.ensures)))
+    c.totals_by-totals.result (rw c.draft-draft.ensures.draft at (c.totals_by-totals.ensures c.args.choice c.in_ok-chosen.ensures)))

@@ -2,5 +2,5 @@
 use Rattle.std.proofs.Common.{refl}
 use Rattle.profile_samples.proofs.exporting.draft_of.Goals as goal
 
-pub returns : goal.returns
-returns c = rw (c.with_samples.ensures, c.in_ok-draft.ensures, c.in_ok-samples.ensures) refl
+pub returns-in-Ok : goal.returns-in-Ok
+returns-in-Ok c = rw (c.with_samples.ensures, c.in-Ok.ensures, c.in_ok-samples.ensures) refl

@@ -38,9 +38,9 @@ returns c = λ all so_far.
     let samples = map (exported_sample c.args.rows.now.row.texts) (singles all) in
     let made = filled c.in_ok-draft.draft c.args.rows.now.row.texts c.args.kind.now c.args.unit.now all
     (rw c.names.ensures at c.in_ok-draft.ensures) so_far.names_rows in
-    both (λ (bytes : Vec ℕ _). bytes.items) c.args.kind.now c.args.unit.now all c.encode_around.result
-    (subst (λ d. IfOk c.encode_around.result (λ bytes. bytes.items ≡ canonical_bytes_of d)) made
-    (c.encode_around.ensures.canonical samples so_far.samples_rows))
-    (rw (sym made) (c.encode_around.ensures.profile samples so_far.samples_rows so_far.fits_rows
+    both (λ (bytes : Vec ℕ _). bytes.items) c.args.kind.now c.args.unit.now all c.encode_around-bytes.result
+    (subst (λ d. IfOk c.encode_around-bytes.result (λ bytes. bytes.items ≡ canonical_bytes_of d)) made
+    (c.encode_around-bytes.ensures.canonical samples so_far.samples_rows))
+    (rw (sym made) (c.encode_around-bytes.ensures.profile samples so_far.samples_rows so_far.fits_rows
     (subst (λ (d : Draft). IsValidDraft d) (sym made)
     (export_valid (singles all) ((c.args.kind.now, c.args.unit.now) ∷ []) (widths-singles all)))))

@@ -28,8 +28,8 @@ returns-in_err-sums c =
     (rw c.draft-draft.ensures.draft at c.in_ok-chosen.ensures)
     (omega arith) (grind (arith, common_steps, err_from_is_err_and)))
 
-pub merged_by-requires : goal.merged_by-requires
-merged_by-requires c =
+pub merged_by-merged-requires : goal.merged_by-merged-requires
+merged_by-merged-requires c =
     ready_to_sum c.args.profile.now c.draft-draft.result.now c.in_ok-frames.frames c.args.choice
     c.in_ok-chosen.chosen c.by_list-samples.result c.in_ok-sums.sums c.draft-draft.ensures.draft
     c.draft-draft.ensures.valid c.in_ok-frames.ensures c.in_ok-chosen.ensures c.by_list-samples.ensures
@@ -37,6 +37,6 @@ merged_by-requires c =
 
 pub returns : goal.returns
 returns c =
-    gives_merged c.args.profile.now c.args.choice c.merged_by.result
-    (first_of_work (IsMergedBatch c.args.profile.now c.args.choice) c.args.profile.now c.args.choice c.merged_by.result
-    (rw c.draft-draft.ensures.draft at (c.merged_by.ensures c.args.choice c.in_ok-chosen.ensures)))
+    gives_merged c.args.profile.now c.args.choice c.merged_by-merged.result
+    (first_of_work (IsMergedBatch c.args.profile.now c.args.choice) c.args.profile.now c.args.choice c.merged_by-merged.result
+    (rw c.draft-draft.ensures.draft at (c.merged_by-merged.ensures c.args.choice c.in_ok-chosen.ensures)))

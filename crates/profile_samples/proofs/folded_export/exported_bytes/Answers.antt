@@ -4,7 +4,7 @@ use Rattle.std.proofs.Common.{arith}
 use Rattle.std.proofs.lemmas.Result.{err_from_is_err_and}
 use Rattle.std.specs.Prelude.{Ok}
 use Rattle.folded_text.proofs.FirstFault.{gives_of_rows}
-use Rattle.profile_samples.proofs.folded_export.export_folded.Goals as goal
+use Rattle.profile_samples.proofs.folded_export.exported_bytes.Goals as goal
 
 pub returns-in_err-take_lines : goal.returns-in_err-take_lines
 returns-in_err-take_lines c = gives_of_rows c.args.text.now _ _ (grind (arith, common_steps, err_from_is_err_and))

@@ -8,9 +8,9 @@ import quick_program  # noqa: E402
 
 NAME = "refused_growths"
 LIBRARIES = [
-    "pprof_wire", "pprof_profile", "profile_rows", "name_counts", "folded_text", "profile_samples", "shared_pages",
-    "call_tree", "flame_report", "op_book", "log_audit", "live_store", "live_report", "flame_answers", "flame_program",
-    "anyhow",
+    "pprof_wire", "pprof_profile", "profile_rows", "name_counts", "ordered_rows", "folded_text", "profile_samples",
+    "shared_pages", "call_tree", "flame_report", "op_book", "log_audit", "live_store", "live_report", "flame_answers",
+    "flame_program", "anyhow", "bumpalo",
 ]
 
 

@@ -2,7 +2,6 @@
 
 ghost use Rattle.std.specs.Prelude.{ℕ, ◌≡◌, ◌≢◌, ◌+◌, ◌^◌, ◌<◌, ◌≤◌, ◌↔◌, ◌∷◌, ◌++◌, [], All, IsTrue, List};
 ghost use Rattle.std.specs.Prelude.{MatchOption, MatchResult, OnOk, length, map};
-ghost use Rattle.std.specs.Str.{IsUtf8};
 ghost use Rattle.std.specs.Str.Parse.{IsNumeral, digits_value};
 ghost use Rattle.folded_text.specs.FoldedText.{GivesBatch, HasCount, HasWeight, IsCountFault, IsFittingFault};
 ghost use Rattle.folded_text.specs.FoldedText.{IsLineFault, IsRowAfter};
@@ -17,8 +16,6 @@ use ordered_rows::{TextFrames, measured, replace_by_text};
 use profile_rows::{Batch, Hashing, MAX_DEPTH, MAX_TOTAL, Stack, WeightedStacks};
 use simdutf8::basic;
 use std::alloc::Global;
-use std::simd::prelude::*;
-use std::str;
 use thiserror::Error;
 
 /// Why bytes aren't folded text, with the line of the first fault. Lines count from 1, empty ones too.
@@ -85,32 +82,6 @@ fn weight_from(digits: &str) -> Option<u64>
     (weight <= MAX_TOTAL).then_some(weight)
 }
 
-/// Whether a line's whole blocks of 64 bytes are ASCII.
-fn has_ascii_blocks(line: &[u8]) -> bool {
-    line.chunks_exact(64).all(
-        |block|
-            requires { 64 ≤ length block.now }
-        {
-            u8x64::from_slice(block)
-                .simd_ge(u8x64::splat(0x80))
-                .to_bitmask()
-                == 0
-        },
-    )
-}
-
-/// A line as text. Where characters aren't ASCII, to test them one after the other is faster than by vectors, whose
-/// bytes the plainest x86-64 processors can't look up.
-fn text_of(line: &[u8]) -> Option<&str>
-    ensures { MatchOption result (¬ (IsUtf8 line.now)) (λ text. (text.now ≡ line.now) × IsUtf8 line.now) }
-{
-    if has_ascii_blocks(line) {
-        basic::from_utf8(line).ok()
-    } else {
-        str::from_utf8(line).ok()
-    }
-}
-
 /// The stack text and the weight of a line.
 pub(crate) fn stack_and_weight<'a>(
     line: &'a [u8],
@@ -118,7 +89,7 @@ pub(crate) fn stack_and_weight<'a>(
 ) -> Result<(&'a str, u64), FoldedFault>
     ensures { MatchResult result (λ found. HasWeight line.now found.0.now found.1) (IsCountFault number line.now) }
 {
-    let text = text_of(line).ok_or(FoldedFault::NotUtf8 { line: number })?;
+    let text = basic::from_utf8(line).map_err(|_| FoldedFault::NotUtf8 { line: number })?;
     let (stack, digits) = split_count(text).ok_or(FoldedFault::NoCount { line: number })?;
     let weight = weight_from(digits).ok_or(FoldedFault::Count { line: number })?;
     Ok((stack, weight))

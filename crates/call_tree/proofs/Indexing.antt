@@ -1,7 +1,7 @@
 -- The index from a parent and a name to a child, when a name or a node is added.
 use Rattle.std.proofs.lemmas.Grind.{common_steps}
 use Rattle.std.proofs.Common.{◌≡◌, ℕ, zero, suc, ◌<◌, Bool, true, false, cond, ◌&&◌, ◌||◌, nat_eq, List, [], ◌∷◌, ◌++◌}
-use Rattle.std.proofs.Common.{length, Option, Some, None, refl, sym, ap, ◌∙◌, arith, inl, inr, ⊎_elim, ◌⊎◌}
+use Rattle.std.proofs.Common.{length, Option, Some, None, refl, sym, ap, ◌∙◌, arith, inl, inr, subst, ⊎_elim, ◌⊎◌}
 use Rattle.std.proofs.lemmas.List.{get_or_append_left, get_or_push, length_push, same_from_push}
 use Rattle.std.proofs.lemmas.List.Sums.{sum_by_push}
 use Rattle.std.proofs.lemmas.Bool.{cases_eq, eqb-true, eq-eqb}
@@ -13,8 +13,8 @@ use Rattle.profile_rows.specs.Names.{is_same_name}
 use Rattle.profile_rows.proofs.RowLaws.{weight_where-push, aggregate_of-same}
 use Rattle.profile_rows.proofs.SameNames.{same_from_is_same_name, is_same_name-self}
 use Rattle.profile_rows.specs.Merging.{no_row, row_at}
-use Rattle.call_tree.specs.State.{PlainTree, IsState, IsChild, IsIndex, IsGrown, same_key, name_at}
-use Rattle.call_tree.specs.State.{stack_at}
+use Rattle.call_tree.specs.State.{PlainTree, TreeState, IsState, IsChild, IsIndex, IsGrown, same_key, name_at}
+use Rattle.call_tree.specs.State.{plain_at, stack_at}
 
 pub IsIndex-look : (look other : ℕ × ℕ → Option ℕ) (tree : PlainTree)
     → ((key : ℕ × ℕ) → other key ≡ look key) → IsIndex look tree → IsIndex other tree
@@ -22,6 +22,13 @@ IsIndex-look look other tree same index = record {
   right = λ p n k e. index.right p n k (sym (same (p, n)) ∙ e);
   complete = λ p n k child. same (p, n) ∙ index.complete p n k child;
 }
+
+-- what a grower keeps true of its tree, which is the same
+pub kept_by_same : (numbers : List (List ℕ)) (look : ℕ × ℕ → Option ℕ) (before now : TreeState) → now ≡ before
+    → (numbers ≡ before.names) × IsIndex look (plain_at before 0)
+    → (numbers ≡ now.names) × IsIndex look (plain_at now 0)
+kept_by_same numbers look before now same kept =
+    subst (λ (tree : TreeState). (numbers ≡ tree.names) × IsIndex look (plain_at tree 0)) (sym same) kept
 
 how_many : Option ℕ → ℕ
 how_many (Some _) = 1

@@ -9,11 +9,15 @@ use Rattle.std.proofs.lemmas.List.{take_more, get_or_append_left, get_or_push, l
 use Rattle.std.proofs.lemmas.List.Folds.{list_any-append}
 use Rattle.std.proofs.lemmas.Bool.{cases_eq, eqb-true, eq-eqb}
 use mathlib.Core.Bool.{or-false}
+use Rattle.profile_rows.specs.declared.weighted_stacks.WeightedStack.{WeightedStack}
+use Rattle.profile_rows.specs.Merging.{row_at}
 use Rattle.profile_rows.specs.Names.{is_same_name}
 use Rattle.profile_rows.specs.Rows.{has_name}
 use Rattle.profile_rows.proofs.SameNames.{same_from_is_same_name, is_same_name-self}
-use Rattle.call_tree.specs.State.{PlainTree, IsState, IsGrown, name_at, stack_at}
+use Rattle.call_tree.specs.State.{PlainTree, TreeState, AreGrown, IsState, IsGrown, name_at, plain_at, stack_at}
+use Rattle.call_tree.specs.Plans.{AreFirstSlots, IsSlot}
 use Rattle.call_tree.specs.Walks.{has_name_numbered, IsOnPath}
+use Rattle.call_tree.proofs.Trees.{nodes_at-past}
 
 pub same_bool : (a b : Bool) → (a ≡ true → b ≡ true) → (b ≡ true → a ≡ true) → a ≡ b
 same_bool true b f g = sym (f refl)
@@ -102,3 +106,16 @@ module _ (tree named : PlainTree) (seen : List ℕ) (frames : List (List ℕ)) (
       → IsOnPath after next frames (i + 1) child
   IsOnPath-step after there next child there_e next_e names child_lt child_stack =
       grind (arith, common_steps, take_more, stack_now, after_seen, after_below)
+
+-- ---- the rows so far, in a tree that grew
+
+IsSlot-grown : (before after : TreeState) (frames : List (List ℕ)) (slot : ℕ)
+    → AreGrown before after → IsSlot (plain_at before 0) frames slot → IsSlot (plain_at after 0) frames slot
+IsSlot-grown before after frames slot grown is = grind (arith, common_steps, nodes_at-past)
+
+pub AreFirstSlots-step : (before after : TreeState) (rows : List WeightedStack) (slots : List ℕ) (i slot : ℕ)
+    → AreGrown before after → AreFirstSlots (plain_at before 0) rows slots i
+    → IsSlot (plain_at after 0) (row_at rows i).stack slot
+    → AreFirstSlots (plain_at after 0) rows (slots ++ slot ∷ []) (i + 1)
+AreFirstSlots-step before after rows slots i slot grown are is =
+    grind (arith, common_steps, get_or_append_left, get_or_push, length_push, cases_eq, IsSlot-grown)

@@ -1,11 +1,12 @@
 use Rattle.std.proofs.lemmas.Grind.{common_steps}
 use Rattle.std.proofs.Common.{◌≡◌, ◌<◌, length, Some, cond, arith, sym, ap, ◌∙◌, subst, ⊎_elim}
+use Rattle.std.proofs.lemmas.List.{get_or_push, length_push}
 use Rattle.std.specs.Result.{is_ok}
 use Rattle.std.specs.Arc.{arc_value}
 use Rattle.std.specs.HashMap as hash
 use Rattle.call_tree.specs.State.{TreeState, AreGrown, AreStates, IsAppended, IsFresh, IsIndex, nodes_at, plain_at}
 use Rattle.call_tree.specs.State.{same_key}
-use Rattle.call_tree.proofs.Indexing.{IsIndex-look, IsIndex-added, from_ok}
+use Rattle.call_tree.proofs.Indexing.{IsIndex-look, IsIndex-added, from_ok, kept_by_same}
 use Rattle.call_tree.proofs.Growing.{AreGrown-appended}
 use Rattle.call_tree.proofs.grower.Grower.add_child.Goals as goal
 
@@ -14,23 +15,16 @@ invariant_of-self c = grind (arith, common_steps, IsIndex-look)
 
 pub invariant_of-self-in_err-make_mut : goal.invariant_of-self-in_err-make_mut
 invariant_of-self-in_err-make_mut c =
-    let same = ⊎_elim (λ e. e) (λ e. e) (rw c.in_err-make_mut.was at c.make_mut.follows.holds-at-none) in (
-      c.self.invariant.0 ∙ ap (λ (t : TreeState). t.names) (sym same),
-      subst (λ (t : TreeState). IsIndex (hash.get same_key c.reserve.new.self) (plain_at t 0)) (sym same)
-          (IsIndex-look (hash.get same_key c.self.inside.index) (hash.get same_key c.reserve.new.self)
-          (plain_at (arc_value c.self.inside.tree) 0) c.in_ok-reserve.ensures.entries.2 c.self.invariant.1),
-    )
+    kept_by_same _ _ _ _ (⊎_elim (λ e. e) (λ e. e) (rw c.in_err-make_mut.was at c.make_mut.follows.holds-at-none))
+    (c.self.invariant.0, IsIndex-look _ _ _ c.in_ok-reserve.ensures.entries.2 c.self.invariant.1)
 
 pub invariant_of-self-in_err-append_node : goal.invariant_of-self-in_err-append_node
 invariant_of-self-in_err-append_node c =
     let made = ⊎_elim (λ e. e) (λ e. e) c.in_ok-make_mut.ensures.value in
     let same = c.make_mut.follows.holds c.append_node.new.self (ap is_ok c.in_ok-make_mut.was)
-    ∙ c.in_err-append_node.ensures ∙ made in (
-      c.self.invariant.0 ∙ ap (λ (t : TreeState). t.names) (sym same),
-      subst (λ (t : TreeState). IsIndex (hash.get same_key c.reserve.new.self) (plain_at t 0)) (sym same)
-          (IsIndex-look (hash.get same_key c.self.inside.index) (hash.get same_key c.reserve.new.self)
-          (plain_at (arc_value c.self.inside.tree) 0) c.in_ok-reserve.ensures.entries.2 c.self.invariant.1),
-    )
+    ∙ c.in_err-append_node.ensures ∙ made in
+    kept_by_same _ _ _ _ same
+    (c.self.invariant.0, IsIndex-look _ _ _ c.in_ok-reserve.ensures.entries.2 c.self.invariant.1)
 
 pub invariant_of-self-2 : goal.invariant_of-self-2
 invariant_of-self-2 c =
@@ -75,3 +69,6 @@ returns-clause-nodes c =
           c.args.parent c.args.name c.args.counts states c.requires ok);
       names = ap (λ (t : TreeState). t.names) next_is ∙ ok.names;
     }
+
+pub returns-clause-child : goal.returns-clause-child
+returns-clause-child c = grind (arith, common_steps, get_or_push, length_push)

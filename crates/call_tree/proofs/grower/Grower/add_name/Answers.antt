@@ -8,7 +8,7 @@ use Rattle.call_tree.specs.State.{TreeState, AreStates, IsIndex, plain_at, same_
 use Rattle.std.specs.Prelude.{if◌then◌else◌}
 use Rattle.indexmap.specs.IndexSet.{insert_key}
 use Rattle.profile_rows.specs.Names.{is_same_name}
-use Rattle.call_tree.proofs.Indexing.{IsIndex-named, from_ok, not_named}
+use Rattle.call_tree.proofs.Indexing.{IsIndex-named, from_ok, kept_by_same, not_named}
 use Rattle.call_tree.proofs.Growing.{AreGrown-named}
 use Rattle.call_tree.proofs.grower.Grower.add_name.Goals as goal
 
@@ -47,3 +47,15 @@ invariant_of-self-2 c =
 
 pub returns-clause-names : goal.returns-clause-names
 returns-clause-names c = grind (arith, common_steps, AreGrown-named)
+
+pub invariant_of-self-in_err-make_mut : goal.invariant_of-self-in_err-make_mut
+invariant_of-self-in_err-make_mut c =
+    kept_by_same _ _ _ _ (⊎_elim (λ e. e) (λ e. e) (rw c.in_err-make_mut.was at c.make_mut.follows.holds-at-none))
+    (c.in_ok-reserve.ensures.keys ∙ c.self.invariant.0, c.self.invariant.1)
+
+pub invariant_of-self-in_err-append_name : goal.invariant_of-self-in_err-append_name
+invariant_of-self-in_err-append_name c =
+    let made = ⊎_elim (λ e. e) (λ e. e) c.in_ok-make_mut.ensures.value in
+    let same = c.make_mut.follows.holds c.append_name.new.self (ap is_ok c.in_ok-make_mut.was)
+    ∙ c.in_err-append_name.ensures ∙ made in
+    kept_by_same _ _ _ _ same (c.in_ok-reserve.ensures.keys ∙ c.self.invariant.0, c.self.invariant.1)

@@ -10,6 +10,12 @@ use Rattle.call_tree.proofs.grower.Grower.add_row.Goals as goal
 pub add_row-requires-clause-fits : goal.add_row-requires-clause-fits
 add_row-requires-clause-fits c = grind (arith, common_steps, weights-grown, total_in-weights_of)
 
+pub returns-in_err-slot : goal.returns-in_err-slot
+returns-in_err-slot c = grind (arith, common_steps, err_from_is_err_and, HasSameWeights-grown)
+
+pub returns-in_err-make_mut : goal.returns-in_err-make_mut
+returns-in_err-make_mut c = grind (arith, common_steps, err_from_is_err_and, HasSameWeights-grown)
+
 pub returns-in_err-add_row : goal.returns-in_err-add_row
 returns-in_err-add_row c = grind (arith, common_steps, err_from_is_err_and, HasSameWeights-grown)
 

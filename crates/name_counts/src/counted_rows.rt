@@ -78,13 +78,6 @@ impl<'a> CountedRows<'a> {
         self.count_row(weight)
     }
 
-    /// What the rows weigh together.
-    pub fn total(&self) -> u64
-        ensures { result ≡ self.now.tallies.total }
-    {
-        self.tallies.total
-    }
-
     /// What the names of the rows weigh.
     ///
     /// # Errors

@@ -19,7 +19,6 @@ pub struct TextFrames<'a> {
 
 impl<'a> Model for TextFrames<'a> {
     ghost use Rattle.std.specs.Prelude.{List, ℕ};
-    ghost use Rattle.profile_rows.specs.Names.{IsName};
     ghost use Rattle.ordered_rows.specs.StackFrames.{frames_of};
 
     ghost Value = { List (List ℕ) };

@@ -1,15 +1,14 @@
 -- The count of a line: digits after its last space.
 use Rattle.std.proofs.lemmas.Grind.{common_steps}
 use Rattle.std.proofs.Common.{◌≡◌, ◌≢◌, ℕ, ◌<◌, List, [], ◌∷◌, ◌++◌, length, get_or, take, drop, refl, sym, ◌∙◌, arith}
-use Rattle.std.proofs.Common.{eqb, lit<}
-use Rattle.std.specs.List.{AllByRecursion, All}
-use Rattle.std.specs.Str.Parse.{AllDigits}
-use Rattle.std.specs.Str.{NoCharPasses}
-use Rattle.std.specs.Str.Pattern.{HasCharAt}
-use Rattle.std.proofs.lemmas.Str.Pattern.{NoCharPasses-char, drop_at_char}
-use Rattle.std.proofs.lemmas.List.{take-append-drop}
+use Rattle.std.proofs.Common.{◌+◌, ◌-◌, ◌*◌, ◌≤◌, ap, get_or-drop, length-drop}
+use Rattle.std.specs.List.{AllByRecursion}
+use Rattle.std.specs.Str.Parse.{AllDigits, IsNumeral, digits_value}
+use Rattle.std.proofs.lemmas.List.{drop_more, take-append-drop}
 use Rattle.std.proofs.lemmas.List.Elements.{All-from_get_or, recursion_from_All}
-use Rattle.std.proofs.lemmas.Str.Parse.{digit_at}
+use Rattle.std.proofs.lemmas.Int.Digits.{digits_value_more}
+use Rattle.std.proofs.lemmas.Str.{digit_value_digit}
+use Rattle.std.proofs.lemmas.Str.Parse.{digit_at, digits_value-take-le}
 use Rattle.folded_text.specs.FoldedText.{HasCount}
 
 -- digits hold no space
@@ -41,17 +40,33 @@ pub HasCount-space : (line stack digits : List ℕ)
 HasCount-space line stack digits none has =
     none (length stack) (grind (arith, common_steps, has.parts)) (grind (arith, common_steps, has.parts))
 
--- what `rsplit_once` gives at a space: the parts before and after the last one
-pub last_cut : (line stack digits : List ℕ) (i j : ℕ) → NoCharPasses (λ char. eqb char 32) (drop j line)
-    → HasCharAt 32 line i j → stack ≡ take i line → digits ≡ drop j line
-    → (line ≡ stack ++ 32 ∷ digits) × AllByRecursion (λ byte. byte ≢ 32) digits
-last_cut line stack digits i j none there front back =
-    let rest : drop i line ≡ 32 ∷ drop j line = drop_at_char 32 line i j there (lit< tt) in
-    let absent : All (λ byte. byte ≢ 32) digits = λ k d lt e. NoCharPasses-char 32 (drop j line) k none (lit< tt)
-    (grind (arith, common_steps)) (grind (arith, common_steps)) in
-    (grind (arith, common_steps, take-append-drop i line), recursion_from_All (λ byte. byte ≢ 32) digits absent)
+-- the parts before and after the last space
+pub last_cut : (line : List ℕ) (at : ℕ) → at < length line → get_or line at 0 ≡ 32
+    → ((k : ℕ) → at + 1 ≤ k → k < length line → get_or line k 0 ≢ 32)
+    → (line ≡ take at line ++ 32 ∷ drop (at + 1) line) × AllByRecursion (λ byte. byte ≢ 32) (drop (at + 1) line)
+last_cut line at lt is none = (
+  sym (take-append-drop at line) ∙ ap (λ rest. take at line ++ rest) (drop_more line at 0 lt)
+      ∙ ap (λ byte. take at line ++ byte ∷ drop (at + 1) line) is,
+  recursion_from_All (λ byte. byte ≢ 32) (drop (at + 1) line)
+      (All-from_get_or (λ byte. byte ≢ 32) (drop (at + 1) line) 0 (λ k k_lt e.
+      none (at + 1 + k) (omega arith) (omega (arith, length-drop (at + 1) line, k_lt))
+      (sym (get_or-drop (at + 1) line k 0) ∙ e))),
+)
 
 pub HasCount-digits : (line stack digits a x : List ℕ)
     → line ≡ stack ++ 32 ∷ digits → AllByRecursion (λ byte. byte ≢ 32) digits → HasCount line a x → x ≡ digits
 HasCount-digits line stack digits a x parts none has =
     (same_last_space a stack x digits (sym has.parts ∙ parts) (AllDigits-no_space x has.numeral.1) none).1
+
+-- ---- what the digits write
+
+-- digits and one more
+pub digits_value-next : (digits : List ℕ) (i : ℕ) → IsNumeral 10 digits → i < length digits
+    → digits_value 10 (take (i + 1) digits) ≡ 10 * digits_value 10 (take i digits) + (get_or digits i 0 - 48)
+digits_value-next digits i numeral lt =
+    let digit = digit_at digits i numeral.1 lt in
+    omega (arith, digits_value_more 10 digits i lt, digit_value_digit (get_or digits i 0) digit, digit)
+
+-- the first digits write no more than all
+pub digits_value-first : (digits : List ℕ) (i : ℕ) → digits_value 10 (take i digits) ≤ digits_value 10 digits
+digits_value-first digits i = digits_value-take-le 10 digits i (omega arith)

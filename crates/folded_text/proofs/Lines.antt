@@ -1,19 +1,22 @@
 -- The lines of a text, as `bstr` gives them and as the grammar has them.
 use Rattle.std.proofs.lemmas.Grind.{common_steps}
 use Rattle.std.proofs.Common.{◌≡◌, ◌≢◌, ℕ, ◌+◌, ◌-◌, ◌<◌, ◌≤◌, Bool, false, eqb, eqb-true, List, [], ◌∷◌, ◌++◌, length}
-use Rattle.std.proofs.Common.{map, refl, sym, ap, ◌∙◌, inl, inr, arith, length-drop, subst}
+use Rattle.std.proofs.Common.{true, map, refl, take, sym, ap, ◌∙◌, inl, inr, arith, length-drop, lit<, subst}
+use Rattle.std.specs.Prelude.{◌==◌, slice_index, if◌then◌else◌}
 use Rattle.std.specs.List.{slice_split, AllByRecursion, All, position_or_len, before_first, after_first}
+use Rattle.std.specs.Str.{IsUtf8}
 use Rattle.std.specs.Str.Lines.{lines, lines_of_parts, strip_carriage_return}
 use Rattle.std.proofs.lemmas.Bool.{cases_lt}
 use Rattle.std.proofs.lemmas.List.{append_assoc}
 use Rattle.std.proofs.lemmas.List.Elements.{All-from_recursion, recursion_from_All, All-take}
 use Rattle.std.proofs.lemmas.List.Splits.{slice_split_at, length-slice_split}
+use Rattle.std.proofs.lemmas.Str.{IsUtf8-take, IsCharBoundary-before_ascii}
 use Rattle.std.proofs.lemmas.List.Sums.{fails_before_first, passes_at_first, split_at_first}
 use borrow.Author.Tests.{eqb-false}
 use Prim.Native.Nat.{zero, suc}
 use Rattle.bstr.specs.Text.{lines_of, without_terminator}
 use Rattle.bstr.proofs.lemmas.LineLemmas.{lines-append, lines-empty, lines-one}
-use Rattle.ordered_rows.proofs.Pieces.{pieces, slice_split-whole}
+use Rattle.ordered_rows.proofs.Pieces.{pieces, pieces-IsUtf8, slice_split-whole}
 
 abbrev pub IsFeed : ℕ → Bool
 IsFeed byte = eqb byte 10
@@ -78,15 +81,33 @@ same_lines (suc n) (byte ∷ text) small =
 pub lines_of-lines : (text : List ℕ) → map without_terminator (lines_of text) ≡ lines text
 lines_of-lines text = same_lines (length text) text (omega arith)
 
-one_line : (parts : List (List ℕ)) → AllByRecursion (All (λ byte. byte ≢ 10)) parts
-    → AllByRecursion (All (λ byte. byte ≢ 10)) (lines_of_parts parts)
-one_line [] all = tt
-one_line (part ∷ []) all = grind (arith, common_steps)
-one_line (part ∷ next ∷ parts) all = grind (arith, common_steps, All-take, one_line (next ∷ parts) all.1)
+-- what holds of the parts between line feeds, also where a carriage return goes, holds of the lines
+each_line : (P : List ℕ → Type 0) → ((part : List ℕ) → P part → P (strip_carriage_return part))
+    → (parts : List (List ℕ)) → AllByRecursion P parts → AllByRecursion P (lines_of_parts parts)
+each_line P strip [] all = tt
+each_line P strip (part ∷ []) all = grind (arith, common_steps)
+each_line P strip (part ∷ next ∷ parts) all = (strip part all.0, each_line P strip (next ∷ parts) all.1)
 
 -- no line holds a line feed
 pub lines-one_line : (text : List ℕ) → All (All (λ byte. byte ≢ 10)) (lines text)
 lines-one_line text =
     All-from_recursion (All (λ byte. byte ≢ 10)) (lines text)
-    (one_line (slice_split IsFeed text) (pieces IsFeed (λ byte. byte ≢ 10) text
+    (each_line (All (λ byte. byte ≢ 10)) (λ part all. grind (arith, common_steps, All-take))
+    (slice_split IsFeed text) (pieces IsFeed (λ byte. byte ≢ 10) text
     (recursion_from_All (λ byte. IsFeed byte ≡ false → byte ≢ 10) text (λ k d lt e. eqb-false _ 10 e))))
+
+stripped : (line : List ℕ) → IsUtf8 line → IsUtf8 (strip_carriage_return line)
+stripped line utf8 = elim_ends (slice_index line (length line - 1) == 13) refl
+  where
+    elim_ends : (b : Bool) → (slice_index line (length line - 1) == 13) ≡ b
+        → IsUtf8 (if b then take (length line - 1) line else line)
+    elim_ends true e =
+        IsUtf8-take line (length line - 1) utf8 (IsCharBoundary-before_ascii line (length line - 1)
+        (grind (arith, common_steps)) (grind (arith, common_steps, eqb-true)))
+    elim_ends false e = utf8
+
+-- the lines of UTF-8 are UTF-8
+pub lines-IsUtf8 : (text : List ℕ) → IsUtf8 text → All IsUtf8 (lines text)
+lines-IsUtf8 text utf8 =
+    All-from_recursion IsUtf8 (lines text)
+    (each_line IsUtf8 stripped (slice_split IsFeed text) (pieces-IsUtf8 10 text (lit< tt) utf8))

@@ -5,6 +5,7 @@ use Rattle.std.proofs.Common.{arith, subst, length-append, drop, inl, inr}
 use Rattle.std.proofs.lemmas.List.{nil_from_length}
 use Rattle.std.proofs.lemmas.List.Sums.{sum_by-cons, sum_by-append, sum_by_push}
 use Rattle.std.proofs.lemmas.List.Elements.{All-drop, All-head, All-same}
+use Rattle.std.specs.Str.{IsUtf8}
 use Rattle.std.specs.Str.Lines.{lines}
 use Rattle.std.specs.Str.Parse.{digits_value}
 use Rattle.profile_rows.specs.declared.weighted_stacks.WeightedStack.{WeightedStack}
@@ -18,7 +19,7 @@ use Rattle.std.specs.Prelude.{All}
 use Rattle.std.specs.declared.iter.Enumerate.{Enumerate}
 use Rattle.bstr.specs.Text.{lines_of, without_terminator}
 use Rattle.folded_text.proofs.Counts.{HasCount-same}
-use Rattle.folded_text.proofs.Lines.{lines-one_line, lines_of-lines}
+use Rattle.folded_text.proofs.Lines.{lines_of-lines}
 
 pub record Shares (line : List ℕ) (row : WeightedStack) (stack digits : List ℕ) : Type 0 where
   pub frames : row.stack ≡ frames_of stack
@@ -174,13 +175,29 @@ pub IsReadTo-skip : (text : List ℕ)
 IsReadTo-skip text rest count rows line next after so_far e number none =
     grind (arith, common_steps, nil_from_length, length-append, AreRowLines-skip)
 
-pub IsReadTo-one_line : (text : List ℕ) (rest : List (List ℕ)) (count : ℕ) (rows : List WeightedStack) (line : List ℕ)
-    (next : List (List ℕ)) → IsReadTo text rest count rows → rest ≡ line ∷ next → All (λ byte. byte ≢ 10) line
-IsReadTo-one_line text rest count rows line next so_far e =
-    All-head (All (λ byte. byte ≢ 10)) line next
-    (All-same (All (λ byte. byte ≢ 10)) (line ∷ next) (drop (length so_far.before) (lines text))
-    (grind (arith, common_steps, so_far.cut))
-    (All-drop (All (λ byte. byte ≢ 10)) (length so_far.before) (lines text) (lines-one_line text)))
+-- what holds of each line holds of the next one
+pub IsReadTo-line : (P : List ℕ → Type 0) (text : List ℕ) (rest : List (List ℕ)) (count : ℕ)
+    (rows : List WeightedStack) (line : List ℕ) (next : List (List ℕ))
+    → IsReadTo text rest count rows → rest ≡ line ∷ next → All P (lines text) → P line
+IsReadTo-line P text rest count rows line next so_far e all =
+    All-head P line next (All-same P (line ∷ next) (drop (length so_far.before) (lines text))
+    (grind (arith, common_steps, so_far.cut)) (All-drop P (length so_far.before) (lines text) all))
+
+-- the next line has the first fault, where it isn't UTF-8
+pub IsFirstFault-not_utf8 : (text : List ℕ) (rest : List (List ℕ)) (count : ℕ) (rows : List WeightedStack)
+    (line : List ℕ) (next : List (List ℕ)) (number : ℕ) → IsReadTo text rest count rows → rest ≡ line ∷ next
+    → 0 < length line → number ≡ count + 1 → ¬ IsUtf8 line → IsFirstFault text (NotUtf8 number)
+IsFirstFault-not_utf8 text rest count rows line next number so_far e some here invalid = (
+  so_far.before,
+  line,
+  next,
+  rows,
+  so_far.cut ∙ ap (λ rest. so_far.before ++ rest) e,
+  so_far.known,
+  so_far.fits,
+  some,
+  (omega (arith, here, so_far.counted), invalid),
+)
 
 -- a line whose stack text and weight don't fit has that fault
 pub IsLineFault-fitting : (earlier number : ℕ) (line text : List ℕ) (depth weight : ℕ) (fault : FoldedFault)

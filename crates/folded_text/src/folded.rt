@@ -2,6 +2,7 @@
 
 ghost use Rattle.std.specs.Prelude.{ℕ, ◌≡◌, ◌≢◌, ◌+◌, ◌^◌, ◌<◌, ◌≤◌, ◌↔◌, ◌∷◌, ◌++◌, [], All, IsTrue, List};
 ghost use Rattle.std.specs.Prelude.{MatchOption, MatchResult, OnOk, length, map};
+ghost use Rattle.std.specs.Str.{IsUtf8};
 ghost use Rattle.std.specs.Str.Parse.{IsNumeral, digits_value};
 ghost use Rattle.folded_text.specs.FoldedText.{GivesBatch, HasCount, HasWeight, IsCountFault, IsFittingFault};
 ghost use Rattle.folded_text.specs.FoldedText.{IsLineFault, IsRowAfter};
@@ -11,6 +12,7 @@ ghost use Rattle.profile_rows.specs.Rows.{total_of};
 
 use crate::taking::{LineTaker, take_lines};
 use basics::NoMemory;
+use bstr::ByteSlice;
 use name_counts::{KnownNames, NumberedRow};
 use ordered_rows::{TextFrames, measured, replace_by_text};
 use profile_rows::{Batch, Hashing, MAX_DEPTH, MAX_TOTAL, Stack, WeightedStacks};
@@ -64,9 +66,10 @@ fn split_count(line: &str) -> Option<(&str, &str)>
     ensures { MatchOption result ((stack digits : List ℕ) → ¬ HasCount line.now stack digits)
         (λ parts. HasCount line.now parts.0.now parts.1.now) }
 {
-    let (stack, digits) = line.rsplit_once(' ')?;
+    let at = line.as_bytes().rfind_byte(b' ')?;
+    let digits = &line[at + 1..];
     if is_numeral(digits) {
-        Some((stack, digits))
+        Some((&line[..at], digits))
     } else {
         None
     }
@@ -78,19 +81,35 @@ fn weight_from(digits: &str) -> Option<u64>
     ensures { MatchOption result (2 ^ 63 ≤ digits_value 10 digits.now)
         (λ weight. (weight ≡ digits_value 10 digits.now) × (weight < 2 ^ 63)) }
 {
-    let weight = digits.parse::<u64>().ok()?;
-    (weight <= MAX_TOTAL).then_some(weight)
+    let mut weight = 0;
+    for byte in digits.as_bytes() {
+        let digit = u64::from(byte - b'0');
+        if weight > (MAX_TOTAL - digit) / 10 {
+            return None;
+        }
+        weight = 10 * weight + digit;
+    }
+    Some(weight)
+}
+
+/// The text of a line, which is tested unless it is known to be UTF-8.
+pub(crate) fn text_of(line: &[u8], is_known: bool, number: u64) -> Result<&str, FoldedFault>
+    requires { IsTrue is_known → IsUtf8 line.now }
+    ensures { MatchResult result (λ text. text.now ≡ line.now)
+        (λ fault. (fault ≡ FoldedFault.NotUtf8 number) × ¬ IsUtf8 line.now) }
+{
+    if is_known {
+        // SAFETY: the line is UTF-8, as the function requires.
+        return Ok(unsafe { str::from_utf8_unchecked(line) });
+    }
+    basic::from_utf8(line).map_err(|_| FoldedFault::NotUtf8 { line: number })
 }
 
 /// The stack text and the weight of a line.
-pub(crate) fn stack_and_weight<'a>(
-    line: &'a [u8],
-    number: u64,
-) -> Result<(&'a str, u64), FoldedFault>
+pub(crate) fn stack_and_weight(line: &str, number: u64) -> Result<(&str, u64), FoldedFault>
     ensures { MatchResult result (λ found. HasWeight line.now found.0.now found.1) (IsCountFault number line.now) }
 {
-    let text = basic::from_utf8(line).map_err(|_| FoldedFault::NotUtf8 { line: number })?;
-    let (stack, digits) = split_count(text).ok_or(FoldedFault::NoCount { line: number })?;
+    let (stack, digits) = split_count(line).ok_or(FoldedFault::NoCount { line: number })?;
     let weight = weight_from(digits).ok_or(FoldedFault::Count { line: number })?;
     Ok((stack, weight))
 }
@@ -123,7 +142,7 @@ pub(crate) fn fitting(
 /// The line's fault, under this number; `NoMemory` only where it has none.
 pub fn read_frames<'a>(
     frames: &mut Vec<&'a str>,
-    line: &'a [u8],
+    line: &'a str,
     earlier: u64,
     number: u64,
 ) -> Result<u64, FoldedFault>
@@ -150,7 +169,7 @@ pub fn read_frames<'a>(
 /// Those of [`read_frames`].
 pub fn read_row(
     row: &mut NumberedRow,
-    line: &[u8],
+    line: &str,
     earlier: u64,
     number: u64,
 ) -> Result<u64, FoldedFault>
@@ -200,7 +219,7 @@ struct Reading<'a> {
 impl<'a> LineTaker<'a> for Reading<'a> {
     ghost is_of = { λ reading rows. reading.rows ≡ rows };
 
-    fn take_line(&mut self, line: &'a [u8], number: u64) -> Result<(), FoldedFault> {
+    fn take_line(&mut self, line: &'a str, number: u64) -> Result<(), FoldedFault> {
         let weight = read_frames(&mut self.frames, line, self.rows.total(), number)?;
         Ok(push_frames(
             self.alloc,

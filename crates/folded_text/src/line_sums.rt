@@ -6,13 +6,13 @@ ghost use Rattle.std.specs.Str.Lines.{strip_carriage_return};
 ghost use Rattle.profile_rows.specs.Aggregate.{aggregate_of};
 ghost use Rattle.profile_rows.specs.Merging.{AddsRow, IsStackAt};
 ghost use Rattle.profile_rows.specs.Rows.{total_of};
-ghost use Rattle.folded_text.specs.FoldedText.{IsLineFault};
+ghost use Rattle.folded_text.specs.FoldedText.{HasWeight, IsCountFault, IsLineFault};
 ghost use Rattle.ordered_rows.specs.StackFrames.{frames_of};
 ghost use Rattle.folded_text.specs.LineSums.{AreAddedLines, IsFirstLine};
 ghost use Rattle.folded_text.specs.TextRows.{AddsLine, AreWithinLimits, IsTooHeavy, WeighsMoreAt};
 ghost use Rattle.ordered_rows.specs.SpelledRows.{IsStackText, rows_with, spelled_rows};
 
-use crate::folded::{FoldedFault, fitting, stack_and_weight};
+use crate::folded::{FoldedFault, fitting, stack_and_weight, text_of};
 use crate::merged::sorted_stacks;
 use basics::NoMemory;
 use bstr::ByteSlice;
@@ -72,6 +72,13 @@ fn first_line(text: &[u8]) -> (&[u8], usize)
         Some(end) => (without_return(&text[..end]), end + 1),
         None => (text, text.len()),
     }
+}
+
+/// The stack text and the weight of a line, which has to be UTF-8.
+fn weighed(line: &[u8], number: u64) -> Result<(&str, u64), FoldedFault>
+    ensures { MatchResult result (λ found. HasWeight line.now found.0.now found.1) (IsCountFault number line.now) }
+{
+    stack_and_weight(text_of(line, false, number)?, number)
 }
 
 impl LineSums {
@@ -148,7 +155,7 @@ impl LineSums {
             (IsLineFault (total_of (spelled_rows self.old)) number line.now) }
         ensures kept { OnErr result (self.new ≡ self.old) }
     {
-        let (text, weight) = stack_and_weight(line, number)?;
+        let (text, weight) = weighed(line, number)?;
         if let Some(at) = self.row_of(text) {
             return self.add_to(at, weight, number);
         }

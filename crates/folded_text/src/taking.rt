@@ -5,8 +5,9 @@ ghost use Rattle.profile_rows.specs.declared.weighted_stacks.WeightedStack.{Weig
 ghost use Rattle.profile_rows.specs.Rows.{total_of};
 ghost use Rattle.folded_text.specs.FoldedText.{IsFirstFault, IsFoldedText, IsLineFault, IsRowLine};
 
-use crate::folded::FoldedFault;
+use crate::folded::{FoldedFault, text_of};
 use bstr::ByteSlice;
+use simdutf8::basic;
 
 /// Something that is made of the rows of a folded text: it takes the text's lines in order.
 pub trait LineTaker<'a> {
@@ -18,7 +19,7 @@ pub trait LineTaker<'a> {
     /// # Errors
     ///
     /// The line's fault, under this number.
-    fn take_line(&mut self, line: &'a [u8], number: u64) -> Result<(), FoldedFault>
+    fn take_line(&mut self, line: &'a str, number: u64) -> Result<(), FoldedFault>
         requires one_line { All (λ byte. byte ≢ 10) line.now }
         requires before { (rows : List WeightedStack) × is_of self.old rows × (total_of rows < 2 ^ 63) }
         ensures { (rows : List WeightedStack) → is_of self.old rows → total_of rows < 2 ^ 63
@@ -39,9 +40,11 @@ pub fn take_lines<'a, T: LineTaker<'a>>(text: &'a [u8], taker: &mut T) -> Result
         (λ done. (rows : List WeightedStack) × IsFoldedText text.now rows × T.is_of taker.new rows)
         (IsFirstFault text.now) }
 {
+    let is_utf8 = basic::from_utf8(text).is_ok();
     for (index, line) in text.lines().enumerate() {
         if !line.is_empty() {
-            taker.take_line(line, index as u64 + 1)?;
+            let number = index as u64 + 1;
+            taker.take_line(text_of(line, is_utf8, number)?, number)?;
         }
     }
     Ok(())

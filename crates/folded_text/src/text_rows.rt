@@ -133,7 +133,7 @@ impl<'a> TextRows<'a> {
     }
 
     /// Adds the row that a line spells, to the row of the same stack text where there is one.
-    pub fn sum_line(&mut self, line: &'a [u8], number: u64) -> Result<(), FoldedFault>
+    pub fn sum_line(&mut self, line: &'a str, number: u64) -> Result<(), FoldedFault>
         requires { All (λ byte. byte ≢ 10) line.now }
         ensures { MatchResult result (λ done. AddsLine line.now self.old self.new)
             (IsLineFault (total_of (spelled_rows self.old)) number line.now) }
@@ -151,7 +151,7 @@ impl<'a> TextRows<'a> {
 impl<'a> LineTaker<'a> for TextRows<'a> {
     ghost is_of = { λ sums rows. AreMergedSoFar rows (spelled_rows sums) };
 
-    fn take_line(&mut self, line: &'a [u8], number: u64) -> Result<(), FoldedFault> {
+    fn take_line(&mut self, line: &'a str, number: u64) -> Result<(), FoldedFault> {
         self.sum_line(line, number)
     }
 }

@@ -21,7 +21,7 @@ use profile_rows::{FrameTotals, Hashing};
 use std::alloc::Global;
 
 /// Counts the row that a line spells, where it spells one that can follow the others.
-fn count_line(rows: &mut CountedRows, line: &[u8], number: u64) -> Result<(), FoldedFault>
+fn count_line(rows: &mut CountedRows, line: &str, number: u64) -> Result<(), FoldedFault>
     requires one_line { All (λ byte. byte ≢ 10) line.now }
     requires counted { (before : List WeightedStack) × HasCounted before rows.old × (total_of before < 2 ^ 63) }
     ensures { MatchResult result (λ done. (before : List WeightedStack) → HasCounted before rows.old
@@ -105,7 +105,7 @@ impl<'a> LineTaker<'a> for Counting<'a> {
     ghost is_of = { λ counting rows. (merged : List WeightedStack) × AreMergedSoFar rows merged
         × AreCounted counting.waiting counting.counted merged };
 
-    fn take_line(&mut self, line: &'a [u8], number: u64) -> Result<(), FoldedFault> {
+    fn take_line(&mut self, line: &'a str, number: u64) -> Result<(), FoldedFault> {
         self.bytes = self.bytes.saturating_add(line.len());
         let Some(sums) = &mut self.waiting else {
             return count_line(&mut self.counted, line, number);

@@ -40,7 +40,7 @@ fn replace_ids(ids: &mut Vec<u64>, numbers: &[usize]) -> Result<(), NoMemory>
 impl<'a> LineTaker<'a> for SampledRows<'a> {
     ghost is_of = { λ sampled rows. AreSamplesOf rows sampled.row.texts sampled.samples sampled.total };
 
-    fn take_line(&mut self, line: &'a [u8], number: u64) -> Result<(), FoldedFault> {
+    fn take_line(&mut self, line: &'a str, number: u64) -> Result<(), FoldedFault> {
         let weight = read_row(&mut self.row, line, self.total, number)?;
         replace_ids(&mut self.ids, self.row.numbers())?;
         self.samples.push(self.ids.as_slice(), &[weight as i64])?;

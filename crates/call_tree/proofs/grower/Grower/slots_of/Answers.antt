@@ -14,9 +14,10 @@ loop-row-preserved c =
     let at = c.loop-row.row-index in
     let next = plain_at c.grow.new.self 0 in
     let row = get_or_read rows at c.row-item.result c.loop-row-test.true c.row-item.is no_row in
-    let slot = subst (λ (row : WeightedStack). IsSlot next row.stack c.in_ok-node.node) row c.in_ok-node.ensures.node in (
+    let node = c.in_ok-node.node in
+    let slot = subst (λ (row : WeightedStack). IsSlot next row.stack node) row c.in_ok-node.ensures.node in (
       grind (arith, common_steps),
       subst (λ (slots : List ℕ). AreFirstSlots next rows slots (at + 1)) (sym c.in_ok-push.ensures.items)
-          (AreFirstSlots-step c.loop-row.self c.grow.new.self rows c.loop-row.slots.items at c.in_ok-node.node
+          (AreFirstSlots-step c.loop-row.self c.grow.new.self rows c.loop-row.slots.items at node
           c.in_ok-node.ensures.grown c.loop-row.invariant.1 slot),
     )

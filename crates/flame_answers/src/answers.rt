@@ -1,9 +1,6 @@
 //! What an input answers to a request.
 
 ghost use Rattle.std.specs.Prelude.{ℕ, ◌≡◌, List, MatchResult, IfOk, None, Option};
-ghost use Rattle.profile_rows.specs.declared.weighted_stacks.WeightedStack.{WeightedStack};
-ghost use Rattle.profile_rows.specs.TopList.{AreTotalsOf};
-ghost use Rattle.flame_report.specs.Answers.{answer_by};
 ghost use Rattle.flame_report.specs.declared.query.Kind.TheVariants.{Top};
 ghost use Rattle.flame_answers.specs.Answers.{IsAnswerOfAll, IsExport, IsReport, answer_text};
 ghost use Rattle.flame_answers.specs.Inputs.{IsChoice, IsRefusedIn};
@@ -11,15 +8,16 @@ ghost use Rattle.flame_answers.specs.Inputs.Wanted.{for_report};
 ghost use Rattle.flame_words.specs.declared.request.Format.TheVariants.{Folded, Pprof};
 
 use crate::faults::AnswerFault;
+use bumpalo::Bump;
 use flame_report::laws::answers_are_by_the_aggregate;
 use flame_report::{
-    Answer, Kind, Query, Rank, flame_json, report_in_order, report_of_stacks, top_list, top_text,
+    Answer, Kind, Query, Rank, flame_json, report_in_order, report_of_stacks, top_of_lent, top_text,
 };
 use flame_words::{Format, Source};
-use folded_text::{folded_totals, read_ordered};
+use folded_text::{lent_totals, read_ordered};
 use pprof_profile::{Text, decode};
-use profile_rows::{FrameTotals, Hashing, NoMemory};
-use profile_samples::{ValueChoice, export_folded, merge_samples, sample_totals};
+use profile_rows::{Hashing, NoMemory};
+use profile_samples::{ValueChoice, export_folded, lent_sample_totals, merge_samples};
 use std::alloc::Global;
 
 /// The text of a report on an input. `hashing` says how its names, stack texts and ids are hashed.
@@ -62,8 +60,10 @@ fn folded_top(
         (λ text. IsAnswerOfAll Folded value input.now (Top rank count) text.items)
         (λ fault. IsRefusedIn Folded (for_report value) input.now fault) }
 {
-    let totals = folded_totals(alloc, hashing, input)?;
-    Ok(totals_text(alloc, totals, rank, count)?)
+    let arena = Bump::new(alloc);
+    let totals = lent_totals(alloc, hashing, &arena, input)?;
+    let top = top_of_lent(totals, rank, count)?;
+    Ok(top_text(alloc, &top)?)
 }
 
 /// The text of the top list of the rows of a profile's samples, which aren't made for it.
@@ -80,23 +80,11 @@ fn profile_top(
         (λ fault. IsRefusedIn Pprof (for_report value.now) input.now fault) }
 {
     let profile = decode(alloc, input)?;
-    let counted = sample_totals(alloc, hashing, &profile, choice_of(value));
+    let arena = Bump::new(alloc);
+    let counted = lent_sample_totals(alloc, hashing, &arena, &profile, choice_of(value));
     drop(profile);
-    Ok(totals_text(alloc, counted?, rank, count)?)
-}
-
-/// The text of the top list of rows, by what their names weigh.
-fn totals_text(
-    alloc: Global,
-    totals: FrameTotals,
-    rank: Rank,
-    count: u32,
-) -> Result<Vec<u8>, NoMemory>
-    ensures { (rows : List WeightedStack) → AreTotalsOf rows totals
-        → IfOk result (λ text. text.items ≡ answer_text (answer_by (Top rank count) rows)) }
-{
-    let top = top_list(totals, rank, count)?;
-    top_text(alloc, &top)
+    let top = top_of_lent(counted?, rank, count)?;
+    Ok(top_text(alloc, &top)?)
 }
 
 /// The bytes of the profile that folded text is exported as.

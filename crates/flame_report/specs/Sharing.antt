@@ -1,5 +1,5 @@
 -- What the stacks of rows in order share, row by row.
-use Rattle.std.specs.Prelude.{ℕ, ◌≡◌, ◌<◌, ◌≤◌, ◌+◌, ◌^◌, List, [], map, filter, length, take, slice_index_or, ⊤}
+use Rattle.std.specs.Prelude.{ℕ, ◌≡◌, ◌<◌, ◌≤◌, ◌+◌, ◌^◌, List, map, filter, length, take, slice_index_or, ⊤}
 use Prim.Native.Nat.{zero, suc}
 use Rattle.std.specs.Ordering.{eq_by_cmp}
 use Rattle.std.specs.List.{common_prefix_len}

@@ -16,4 +16,4 @@ pub use json_text::flame_json;
 pub use profile_rows::{FrameTotal as TopRow, NoMemory};
 pub use query::{Columns, Kind, MAX_COLUMNS, Query, Rank};
 pub use reports::{report, report_in_order, report_of, report_of_stacks};
-pub use top::{top_list, top_text};
+pub use top::{top_list, top_of_lent, top_text};

@@ -10,56 +10,49 @@ ghost use Rattle.flame_report.specs.First.{AreFirst};
 use crate::answer::Top;
 use crate::query::Rank;
 use basics::Items;
+use name_counts::{LentTotal, LentTotals, keep_totals};
 use profile_rows::laws::top_list_is_front_of_sorted;
 use profile_rows::{FrameTotal, FrameTotals, NoMemory};
 use std::alloc::{AllocError, Global};
 use std::cmp::Ordering;
 
 /// The weight that `rank` chooses.
-fn ranked_weight(frame: &FrameTotal, rank: Rank) -> u64
+fn ranked_weight(frame: &LentTotal, rank: Rank) -> u64
     ensures { result ≡ chosen_weight (ranking_of rank) frame.now }
 {
     match rank {
-        Rank::Flat => frame.flat,
-        Rank::Cum => frame.cum,
+        Rank::Flat => frame.flat(),
+        Rank::Cum => frame.cum(),
     }
 }
 
 /// By falling weight, and names of one weight by their bytes.
-fn compare(left: &FrameTotal, right: &FrameTotal, rank: Rank) -> Ordering
+fn compare(left: &LentTotal, right: &LentTotal, rank: Rank) -> Ordering
     ensures { result ≡ top_cmp (ranking_of rank) left.now right.now }
 {
-    ranked_weight(right, rank)
-        .cmp(&ranked_weight(left, rank))
-        .then_with(|| left.name.cmp(&right.name))
-}
-
-/// The same names with their weights once more, in a list of their own.
-fn copied(alloc: Global, frames: &[FrameTotal]) -> Result<Vec<FrameTotal>, AllocError>
-    ensures { IfOk result (λ copies. copies.items ≡ frames.now) }
-{
-    let mut copies = Vec::with_capacity(alloc, frames.len())?;
-    for frame in frames {
-        let (name, flat, cum) = (frame.name.clone()?, frame.flat, frame.cum);
-        copies.push(FrameTotal { name, flat, cum })?;
+    match ranked_weight(right, rank).cmp(&ranked_weight(left, rank)) {
+        Ordering::Equal => left.name().cmp(right.name()),
+        decided => decided,
     }
-    Ok(copies)
 }
 
-/// Leaves the first `count` names by the weight that `rank` chooses, in no order. They are copies: what a selection
-/// promises ends with the parts that it lends, and says nothing of the list after that.
-fn select_names(list: &mut Vec<FrameTotal>, rank: Rank, count: usize) -> Result<(), AllocError>
-    ensures { OnOk result (AreFirst (top_cmp (ranking_of rank)) count list.old.items list.new.items) }
+/// The first `count` names by the weight that `rank` chooses, in no order. Only these are copied.
+fn select_names(
+    mut list: Vec<LentTotal>,
+    rank: Rank,
+    count: usize,
+) -> Result<Vec<FrameTotal>, NoMemory>
+    ensures { IfOk result (λ first. AreFirst (top_cmp (ranking_of rank)) count list.entry.items first.items) }
 {
+    let alloc = *list.allocator();
     if count < list.len() {
-        let alloc = *list.allocator();
         let (first, _, _) = list.select_nth_unstable_by(
             count,
             |left, right| compare(left, right, rank),
         );
-        *list = copied(alloc, first)?;
+        return keep_totals(alloc, first);
     }
-    Ok(())
+    keep_totals(alloc, list.as_slice())
 }
 
 /// Sorts names by the weight that `rank` chooses.
@@ -67,20 +60,35 @@ fn sort_names(list: &mut Vec<FrameTotal>, rank: Rank) -> Result<(), AllocError>
     ensures permutation { IsPermutation list.old.items list.new.items }
     ensures sorted { OnOk result (IsSorted (top_cmp (ranking_of rank)) list.new.items) }
 {
-    list.sort_by(|left, right| compare(left, right, rank))?;
+    list.sort_by(|left, right| compare(&LentTotal::of(left), &LentTotal::of(right), rank))?;
     Ok(())
 }
 
-/// Keeps the first `count` names by the weight that `rank` chooses, in order. The others are left out before the sort,
-/// so that its time goes by `count`.
-fn rank_names(list: &mut Vec<FrameTotal>, rank: Rank, count: u32) -> Result<(), AllocError>
-    ensures { (rows : List WeightedStack) → AreSumsOf rows list.old.items
-        → OnOk result (list.new.items ≡ top_list_of (ranking_of rank) count rows) }
+/// The first `count` names by the weight that `rank` chooses, in order. The others are left out before the sort, so that
+/// its time goes by `count`.
+fn rank_names(list: Vec<LentTotal>, rank: Rank, count: u32) -> Result<Vec<FrameTotal>, NoMemory>
+    ensures { (rows : List WeightedStack) → AreSumsOf rows list.entry.items
+        → IfOk result (λ first. first.items ≡ top_list_of (ranking_of rank) count rows) }
 {
-    select_names(list, rank, count as usize)?;
-    sort_names(list, rank)?;
+    let mut first = select_names(list, rank, count as usize)?;
+    sort_names(&mut first, rank)?;
     top_list_is_front_of_sorted();
-    Ok(())
+    Ok(first)
+}
+
+/// The top list of rows, from what their names weigh: the first `count` names by the weight that `rank` chooses, of which
+/// copies are made.
+///
+/// # Errors
+///
+/// `NoMemory`.
+pub fn top_of_lent(totals: LentTotals, rank: Rank, count: u32) -> Result<Top, NoMemory>
+    ensures { (rows : List WeightedStack) → AreTotalsOf rows totals.entry
+        → IfOk result (λ top. top ≡ top_of rank count rows) }
+{
+    let (total, names) = totals.into_parts();
+    let rows = Items::new(rank_names(names, rank, count)?);
+    Ok(Top { total, rows })
 }
 
 /// The top list of rows, from what their names weigh: the first `count` names by the weight that `rank` chooses.
@@ -92,12 +100,8 @@ pub fn top_list(totals: FrameTotals, rank: Rank, count: u32) -> Result<Top, NoMe
     ensures { (rows : List WeightedStack) → AreTotalsOf rows totals
         → IfOk result (λ top. top ≡ top_of rank count rows) }
 {
-    let FrameTotals { total, mut frames } = totals;
-    rank_names(&mut frames, rank, count)?;
-    Ok(Top {
-        total,
-        rows: Items::new(frames),
-    })
+    let lent = LentTotals::of(*totals.frames.allocator(), &totals)?;
+    top_of_lent(lent, rank, count)
 }
 
 /// Adds the line of a name.

@@ -8,7 +8,7 @@ use Rattle.std.proofs.lemmas.List.{drop_more, take-append-drop}
 use Rattle.std.proofs.lemmas.List.Elements.{All-from_get_or, recursion_from_All}
 use Rattle.std.proofs.lemmas.Int.Digits.{digits_value_more}
 use Rattle.std.proofs.lemmas.Str.{digit_value_digit}
-use Rattle.std.proofs.lemmas.Str.Parse.{digit_at, digits_value-take-le}
+use Rattle.std.proofs.lemmas.Str.Parse.{digit_at}
 use Rattle.folded_text.specs.FoldedText.{HasCount}
 
 -- digits hold no space
@@ -66,7 +66,3 @@ pub digits_value-next : (digits : List ℕ) (i : ℕ) → IsNumeral 10 digits �
 digits_value-next digits i numeral lt =
     let digit = digit_at digits i numeral.1 lt in
     omega (arith, digits_value_more 10 digits i lt, digit_value_digit (get_or digits i 0) digit, digit)
-
--- the first digits write no more than all
-pub digits_value-first : (digits : List ℕ) (i : ℕ) → digits_value 10 (take i digits) ≤ digits_value 10 digits
-digits_value-first digits i = digits_value-take-le 10 digits i (omega arith)

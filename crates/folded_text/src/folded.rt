@@ -7,6 +7,7 @@ ghost use Rattle.std.specs.Str.Parse.{IsNumeral, digits_value};
 ghost use Rattle.folded_text.specs.FoldedText.{GivesBatch, HasCount, HasWeight, IsCountFault, IsFittingFault};
 ghost use Rattle.folded_text.specs.FoldedText.{IsLineFault, IsRowAfter};
 ghost use Rattle.profile_rows.specs.Names.{IsName};
+ghost use Rattle.ordered_rows.specs.StackFrames.{frames_of};
 ghost use Rattle.name_counts.specs.NumberedRows.{HasReplaced};
 ghost use Rattle.profile_rows.specs.Rows.{total_of};
 
@@ -106,7 +107,11 @@ pub(crate) fn text_of(line: &[u8], is_known: bool, number: u64) -> Result<&str, 
 }
 
 /// The stack text and the weight of a line.
-pub(crate) fn stack_and_weight(line: &str, number: u64) -> Result<(&str, u64), FoldedFault>
+///
+/// # Errors
+///
+/// `NoCount` and `Count`, under this number.
+pub fn stack_and_weight(line: &str, number: u64) -> Result<(&str, u64), FoldedFault>
     ensures { MatchResult result (λ found. HasWeight line.now found.0.now found.1) (IsCountFault number line.now) }
 {
     let (stack, digits) = split_count(line).ok_or(FoldedFault::NoCount { line: number })?;
@@ -115,12 +120,11 @@ pub(crate) fn stack_and_weight(line: &str, number: u64) -> Result<(&str, u64), F
 }
 
 /// Whether a row of so many frames can follow rows of the weight `earlier`.
-pub(crate) fn fitting(
-    depth: usize,
-    weight: u64,
-    earlier: u64,
-    number: u64,
-) -> Result<(), FoldedFault>
+///
+/// # Errors
+///
+/// `Depth` and `Heavy`, under this number.
+pub fn fitting(depth: usize, weight: u64, earlier: u64, number: u64) -> Result<(), FoldedFault>
     requires { earlier < 2 ^ 63 }
     ensures { MatchResult result (λ done. (depth ≤ MAX_DEPTH) × (earlier + weight < 2 ^ 63))
         (IsFittingFault earlier number depth weight) }
@@ -162,30 +166,30 @@ pub fn read_frames<'a>(
     Ok(weight)
 }
 
-/// As [`read_frames`], and the frames take the place of those of a row whose names are numbered.
+/// The frames of a stack text in the place of those of a row whose names are numbered, where the row of a line with
+/// this text and this weight can follow rows of the weight `earlier`.
 ///
 /// # Errors
 ///
-/// Those of [`read_frames`].
-pub fn read_row(
+/// The line's fault, under this number; `NoMemory` only where it has none.
+pub fn read_stack(
     row: &mut NumberedRow,
-    line: &str,
+    stack: &str,
+    weight: u64,
     earlier: u64,
     number: u64,
-) -> Result<u64, FoldedFault>
-    requires one_line { All (λ byte. byte ≢ 10) line.now }
+) -> Result<(), FoldedFault>
+    requires line { (line : List ℕ) × All (λ byte. byte ≢ 10) line × HasWeight line stack.now weight }
     requires earlier { earlier < 2 ^ 63 }
-    ensures { MatchResult result (λ weight. HasReplaced row.new.frames row.old row.new × IsRowAfter earlier line.now
-        (record { stack = row.new.frames; weight = weight }))
-        (IsLineFault earlier number line.now) }
+    ensures { (line : List ℕ) → All (λ byte. byte ≢ 10) line → HasWeight line stack.now weight → MatchResult result
+        (λ done. HasReplaced (frames_of stack.now) row.old row.new × IsRowAfter earlier line
+        (record { stack = frames_of stack.now; weight = weight })) (IsLineFault earlier number line) }
 {
-    let (stack, weight) = stack_and_weight(line, number)?;
     let Ok(()) = row.replace(&mut TextFrames::of(stack)) else {
         fitting(measured(stack).0, weight, earlier, number)?;
         return Err(FoldedFault::NoMemory);
     };
-    fitting(row.numbers().len(), weight, earlier, number)?;
-    Ok(weight)
+    fitting(row.numbers().len(), weight, earlier, number)
 }
 
 /// Adds a row of these frames, which fits.

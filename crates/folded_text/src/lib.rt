@@ -10,9 +10,11 @@ mod text_rows;
 mod text_totals;
 mod written;
 
-pub use folded::{FoldedFault, read_folded, read_folded_with, read_frames, read_row};
+pub use folded::{
+    FoldedFault, fitting, read_folded, read_folded_with, read_frames, read_stack, stack_and_weight,
+};
 pub use line_sums::{AddedLines, LineSums};
 pub use merged::{merge_lines, read_ordered};
 pub use taking::{LineTaker, take_lines};
-pub use text_totals::folded_totals;
+pub use text_totals::{folded_totals, lent_totals, saves_work};
 pub use written::{write_folded, write_ordered, write_stacks};

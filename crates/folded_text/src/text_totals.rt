@@ -10,12 +10,12 @@ ghost use Rattle.folded_text.specs.FoldedText.{GivesOfRows, IsLineFault, IsRowLi
 ghost use Rattle.ordered_rows.specs.SpelledRows.{IsStackText, spelled_rows};
 ghost use Rattle.folded_text.specs.TextSums.{AreCounted};
 
-use crate::folded::{FoldedFault, read_row};
+use crate::folded::{FoldedFault, read_stack, stack_and_weight};
 use crate::taking::{LineTaker, take_lines};
 use crate::text_rows::TextRows;
 use basics::NoMemory;
 use bumpalo::Bump;
-use name_counts::CountedRows;
+use name_counts::{CountedRows, LentTotals};
 use ordered_rows::count_rows;
 use profile_rows::{FrameTotals, Hashing};
 use std::alloc::Global;
@@ -29,19 +29,20 @@ fn count_line(rows: &mut CountedRows, line: &str, number: u64) -> Result<(), Fol
         × HasCounted (before ++ row ∷ []) rows.new)
         (IsLineFault rows.old.tallies.total number line.now) }
 {
-    let weight = read_row(&mut rows.row, line, rows.tallies.total, number)?;
+    let (stack, weight) = stack_and_weight(line, number)?;
+    read_stack(&mut rows.row, stack, weight, rows.tallies.total, number)?;
     Ok(rows.count_row(weight)?)
 }
 
-/// How many stack texts wait before it is looked at whether that saves work.
+/// How many stack texts are kept before it is looked at whether that saves work.
 const FIRST_TEXTS: u64 = 4096;
 
 /// How many bytes of lines are read before it is looked at.
 const FIRST_BYTES: usize = 1 << 20;
 
-/// Whether at least a quarter of so many lines that weigh something had a stack text that was there before, so that
-/// waiting for more lines of these texts saves work.
-fn saves_work(texts: u64, lines: u64, bytes: usize) -> bool {
+/// Whether keeping stack texts saves work: at least a quarter of so many lines had one that was there before, or it is
+/// too early to tell. `bytes` is how many the lines have.
+pub fn saves_work(texts: u64, lines: u64, bytes: usize) -> bool {
     (texts < FIRST_TEXTS && bytes < FIRST_BYTES) || lines - lines / 4 >= texts
 }
 
@@ -91,13 +92,13 @@ impl<'a> Counting<'a> {
     }
 
     /// What the names weigh in all rows, also in those that wait.
-    fn totals(&mut self, alloc: Global) -> Result<FrameTotals, NoMemory>
+    fn totals(&mut self, alloc: Global) -> Result<LentTotals<'a>, NoMemory>
         requires { (merged : List WeightedStack) × AreCounted self.old.waiting self.old.counted merged }
         ensures { (merged : List WeightedStack) → AreCounted self.old.waiting self.old.counted merged
             → IfOk result (AreTotalsOf merged) }
     {
         self.count_waiting()?;
-        self.counted.totals(alloc)
+        Ok(self.counted.totals(alloc)?)
     }
 }
 
@@ -122,6 +123,25 @@ impl<'a> LineTaker<'a> for Counting<'a> {
     }
 }
 
+/// What the names weigh in the rows that [`read_folded`](crate::read_folded) reads. Names are copied into `arena`, and
+/// `hashing` says how they and stack texts are hashed.
+///
+/// # Errors
+///
+/// Those of [`read_folded`](crate::read_folded).
+pub fn lent_totals<'a>(
+    alloc: Global,
+    hashing: Hashing,
+    arena: &'a Bump,
+    text: &'a [u8],
+) -> Result<LentTotals<'a>, FoldedFault>
+    ensures { GivesOfRows text.now AreTotalsOf result }
+{
+    let mut counting = Counting::new(alloc, hashing, arena);
+    take_lines(text, &mut counting)?;
+    Ok(counting.totals(alloc)?)
+}
+
 /// What the names weigh in the rows that [`read_folded`](crate::read_folded) reads. `hashing` says how names and stack
 /// texts are hashed.
 ///
@@ -140,7 +160,6 @@ pub fn folded_totals(
     ensures { GivesOfRows text.now AreTotalsOf result }
 {
     let arena = Bump::new(alloc);
-    let mut counting = Counting::new(alloc, hashing, &arena);
-    take_lines(text, &mut counting)?;
-    Ok(counting.totals(alloc)?)
+    let lent = lent_totals(alloc, hashing, &arena, text)?;
+    Ok(lent.keep(alloc)?)
 }

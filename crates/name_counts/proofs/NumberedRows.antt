@@ -1,7 +1,7 @@
 -- Names that are numbered as rows are counted.
 use Rattle.std.proofs.lemmas.Grind.{common_steps}
 use Rattle.std.proofs.Common.{◌≡◌, ℕ, zero, suc, ◌+◌, ◌-◌, ◌^◌, ◌<◌, ◌≤◌, true, false, cond, List, [], ◌∷◌, ◌++◌}
-use Rattle.std.proofs.Common.{length, map, take, drop, get_or, refl, sym, ap, ◌∙◌, subst, arith, All, Option, Some}
+use Rattle.std.proofs.Common.{length, map, take, refl, sym, ap, ◌∙◌, subst, arith, All, Option, Some}
 use Rattle.std.proofs.Common.{replicate}
 use Rattle.std.proofs.Common.{None}
 use Rattle.std.specs.Prelude.{MatchOption, slice_get, slice_index_or}
@@ -27,7 +27,7 @@ use Rattle.name_counts.specs.NumberedRows.{HasFrameAt, HasReplaced, IsBeginning,
 use Rattle.name_counts.proofs.TallyLaws.{zero_tally}
 use Rattle.name_counts.proofs.TextNumbers.{any_push, next_with, number_in-kept, number_in-lt, there_inside}
 use Rattle.name_counts.proofs.TextNumbers.{text_of_number, with_text-there}
-use Rattle.profile_rows.proofs.SameNames.{is_same_name-self, same_from_is_same_name}
+use Rattle.profile_rows.proofs.SameNames.{is_same_name-self}
 
 -- ---- a name more
 

@@ -9,6 +9,7 @@ ghost use Rattle.name_counts.specs.Tallies.{HasCounted, HasRowToCount};
 ghost use Rattle.profile_rows.specs.TopList.{AreTotalsOf};
 
 use crate::frame_source::{FrameSource, ListedFrames};
+use crate::lent_totals::LentTotals;
 use crate::numbered_row::NumberedRow;
 use crate::tallies::Tallies;
 use basics::NoMemory;
@@ -78,14 +79,15 @@ impl<'a> CountedRows<'a> {
         self.count_row(weight)
     }
 
-    /// What the names of the rows weigh.
+    /// What the names of the rows weigh. They stay in the arena.
     ///
     /// # Errors
     ///
-    /// `NoMemory`.
-    pub fn totals(&self, alloc: Global) -> Result<FrameTotals, NoMemory>
+    /// `AllocError`.
+    pub fn totals(&self, alloc: Global) -> Result<LentTotals<'a>, AllocError>
         requires { (rows : List WeightedStack) × HasCounted rows self.now }
-        ensures { (rows : List WeightedStack) → HasCounted rows self.now → IfOk result (AreTotalsOf rows) }
+        ensures { (rows : List WeightedStack) → HasCounted rows self.now
+            → IfOk result (AreTotalsOf rows) }
     {
         self.tallies.totals(alloc, self.row.names().texts())
     }
@@ -146,5 +148,5 @@ pub fn kept_totals(
             count_batch_row(&mut rows, &mut frames, row)?;
         }
     }
-    rows.totals(alloc)
+    rows.totals(alloc)?.keep(alloc)
 }

@@ -5,6 +5,7 @@
 mod counted_rows;
 mod frame_source;
 mod known_names;
+mod lent_totals;
 mod numbered_row;
 mod tallies;
 mod text_table;
@@ -12,6 +13,7 @@ mod text_table;
 pub use counted_rows::{CountedRows, kept_totals, replace_by_names};
 pub use frame_source::{FrameSource, ListedFrames};
 pub use known_names::KnownNames;
+pub use lent_totals::{LentTotal, LentTotals, keep_totals};
 pub use numbered_row::NumberedRow;
 pub use tallies::{Tallies, Tally};
 pub use text_table::TextTable;

@@ -8,8 +8,7 @@ ghost use Rattle.name_counts.specs.Tallies.{numbers_counted, tally_at};
 ghost use Rattle.name_counts.specs.TextTables.{with_texts};
 ghost use Rattle.profile_rows.specs.TopList.{AreSumsOf, AreTotalsOf};
 
-use basics::NoMemory;
-use profile_rows::{FrameTotal, FrameTotals, Name};
+use crate::lent_totals::{LentTotal, LentTotals};
 use std::alloc::{AllocError, Global};
 
 /// What a name weighs so far: as a leaf, and in the rows that have it. `row` is the number of the last of these, which
@@ -71,7 +70,11 @@ pub struct Tallies {
 }
 
 /// The names of cumulative weight above 0 with their weights.
-fn weighted(alloc: Global, names: &[&str], tallies: &Tallies) -> Result<Vec<FrameTotal>, NoMemory>
+fn weighted<'a>(
+    alloc: Global,
+    names: &[&'a str],
+    tallies: &Tallies,
+) -> Result<Vec<LentTotal<'a>>, AllocError>
     requires { (rows : List WeightedStack) × AreTalliesOf rows (map (λ name. name.now) names.now) tallies.now }
     ensures { (rows : List WeightedStack) → AreTalliesOf rows (map (λ name. name.now) names.now) tallies.now
         → IfOk result (λ list. AreSumsOf rows list.items) }
@@ -80,11 +83,7 @@ fn weighted(alloc: Global, names: &[&str], tallies: &Tallies) -> Result<Vec<Fram
     for (number, name) in names.iter().enumerate() {
         let tally = &tallies.names[number];
         if tally.cumulative > 0 {
-            list.push(FrameTotal {
-                name: Name::keep(alloc, *name)?,
-                flat: tally.flat,
-                cum: tally.cumulative,
-            })?;
+            list.push(LentTotal::new(*name, tally.flat, tally.cumulative))?;
         }
     }
     Ok(list)
@@ -146,14 +145,13 @@ impl Tallies {
     ///
     /// # Errors
     ///
-    /// `NoMemory`.
-    pub fn totals(&self, alloc: Global, names: &[&str]) -> Result<FrameTotals, NoMemory>
+    /// `AllocError`.
+    pub fn totals<'a>(&self, alloc: Global, names: &[&'a str]) -> Result<LentTotals<'a>, AllocError>
         requires { (rows : List WeightedStack) × AreTalliesOf rows (map (λ name. name.now) names.now) self.now }
         ensures { (rows : List WeightedStack) → AreTalliesOf rows (map (λ name. name.now) names.now) self.now
             → IfOk result (AreTotalsOf rows) }
     {
         let frames = weighted(alloc, names, self)?;
-        let total = self.total;
-        Ok(FrameTotals { total, frames })
+        Ok(LentTotals::new(self.total, frames))
     }
 }

@@ -146,6 +146,6 @@ impl<'a> TextStacks<'a> {
         let arena = Bump::new(alloc);
         let mut counted = CountedRows::new(alloc, hashing, &arena);
         count_rows(&mut counted, self.rows.as_slice())?;
-        counted.totals(alloc)
+        counted.totals(alloc)?.keep(alloc)
     }
 }

@@ -7,6 +7,7 @@ pub mod FirstFaults
 pub mod FrameLists
 pub mod FrameNumbers
 pub mod ItemsById
+pub mod KnownStacks
 pub mod IdIndex
 pub mod LocationSums
 pub mod SampleBatches

@@ -3,6 +3,7 @@ pub mod CountedSamples
 pub mod EqualStrings
 pub mod Export
 pub mod IdIndex
+pub mod KnownStacks
 pub mod LocationSums
 pub mod MergedSamples
 pub mod NameNumbers

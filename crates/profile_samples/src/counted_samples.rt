@@ -18,7 +18,8 @@ use crate::name_numbers::NumberedFrames;
 use crate::sampling::{BatchFault, ValueChoice, chosen_value};
 use crate::unfolding::push_numbers;
 use basics::NoMemory;
-use name_counts::Tallies;
+use bumpalo::Bump;
+use name_counts::{LentTotals, Tallies};
 use pprof_profile::{Draft, Profile, SamplesByList};
 use profile_rows::{FrameTotals, Hashing, Name};
 use std::alloc::{AllocError, Global};
@@ -78,52 +79,79 @@ fn count_sums(
     Ok(())
 }
 
-/// The texts of names.
-fn texts_of(alloc: Global, names: &[Name]) -> Result<Vec<&str>, AllocError>
+/// Copies of names in the arena.
+fn texts_of<'a>(alloc: Global, arena: &'a Bump, names: &[Name]) -> Result<Vec<&'a str>, AllocError>
     ensures { IfOk result (λ texts. map (λ text. text.now) texts.items ≡ names.now) }
 {
     let mut texts = Vec::with_capacity(alloc, names.len())?;
     for name in names {
-        texts.push(name.text())?;
+        texts.push(arena.try_alloc_str(name.text())?)?;
     }
     Ok(texts)
 }
 
 /// What the names weigh in the rows of lists of locations.
-fn totals_of(
+fn totals_of<'a>(
     alloc: Global,
+    arena: &'a Bump,
     frames: &NumberedFrames,
     sums: &LocationSums,
-) -> Result<FrameTotals, NoMemory>
+) -> Result<LentTotals<'a>, NoMemory>
     ensures { IfOk result (AreTotalsOf (rows_of_sums frames.now sums.now)) }
 {
     let mut tallies = Tallies::without_rows(alloc, frames.names().len())?;
     let mut numbers = Vec::new(alloc);
     count_sums(frames, &mut tallies, &mut numbers, sums)?;
-    let names = texts_of(alloc, frames.names())?;
+    let names = texts_of(alloc, arena, frames.names())?;
     let totals = tallies.totals(alloc, names.as_slice());
     drop(names);
     drop(tallies);
-    totals
+    Ok(totals?)
 }
 
 /// What the names weigh in the rows of a valid draft's samples by the values at an index, which are summed by their
 /// lists of locations. Where memory runs out, no sample has a fault.
-fn totals_by(
+fn totals_by<'a>(
     alloc: Global,
+    arena: &'a Bump,
     draft: &Draft,
     frames: &NumberedFrames,
     samples: &SamplesByList,
     sums: &mut LocationSums,
     chosen: usize,
-) -> Result<FrameTotals, BatchFault>
+) -> Result<LentTotals<'a>, BatchFault>
     requires { AreReadyToSum draft.now frames.now samples.now sums.old chosen }
     ensures { (choice : ValueChoice) → chosen_types_of draft.now choice ≡ Some (chosen, 1)
         → MatchResult result (AreTotalsOfSamples draft.now choice)
         (λ fault. IsStacksWorkFault draft.now choice fault) }
 {
     sum_samples(draft, frames, samples, sums, chosen)?;
-    Ok(totals_of(alloc, frames, sums)?)
+    Ok(totals_of(alloc, arena, frames, sums)?)
+}
+
+/// What [`sample_totals`] gives, with names that are copied into `arena`.
+///
+/// # Errors
+///
+/// Those of [`merge_samples`](crate::merge_samples).
+pub fn lent_sample_totals<'a>(
+    alloc: Global,
+    hashing: Hashing,
+    arena: &'a Bump,
+    profile: &Profile,
+    choice: ValueChoice,
+) -> Result<LentTotals<'a>, BatchFault>
+    ensures { GivesOfStacks profile.now choice.entry (AreTotalsOfSamples profile.now choice.entry) AreTotalsOf result }
+{
+    let draft = profile.draft();
+    let chosen = chosen_value(alloc, draft, choice)?;
+    let samples = draft.samples.by_list();
+    let mut sums = LocationSums::new(alloc, &samples)?;
+    let frames = NumberedFrames::new(alloc, hashing, profile)?;
+    let totals = totals_by(alloc, arena, draft, &frames, &samples, &mut sums, chosen);
+    drop(frames);
+    drop(sums);
+    totals
 }
 
 /// What the names weigh in the rows that [`batch_of`](crate::batch_of) makes of a profile's samples, by one value. No
@@ -142,13 +170,7 @@ pub fn sample_totals(
 ) -> Result<FrameTotals, BatchFault>
     ensures { GivesOfStacks profile.now choice.entry (AreTotalsOfSamples profile.now choice.entry) AreTotalsOf result }
 {
-    let draft = profile.draft();
-    let chosen = chosen_value(alloc, draft, choice)?;
-    let samples = draft.samples.by_list();
-    let mut sums = LocationSums::new(alloc, &samples)?;
-    let frames = NumberedFrames::new(alloc, hashing, profile)?;
-    let totals = totals_by(alloc, draft, &frames, &samples, &mut sums, chosen);
-    drop(frames);
-    drop(sums);
-    totals
+    let arena = Bump::new(alloc);
+    let lent = lent_sample_totals(alloc, hashing, &arena, profile, choice)?;
+    Ok(lent.keep(alloc)?)
 }

@@ -1,14 +1,17 @@
 //! Folded text as the bytes of a profile, with no row and no sample kept.
 
-ghost use Rattle.std.specs.Prelude.{◌≡◌, ◌+◌, ◌^◌, ◌<◌, [], All, IfOk, List, OnOk, map, reverse};
+ghost use Rattle.std.specs.Prelude.{ℕ, ◌≡◌, ◌≢◌, ◌+◌, ◌^◌, ◌<◌, [], All, IfOk, List, MatchResult, OnOk, map, reverse};
 ghost use Rattle.profile_rows.specs.declared.weighted_stacks.WeightedStack.{WeightedStack};
 ghost use Rattle.profile_samples.specs.Export.{AreSamplesOf, IsExportOf};
-ghost use Rattle.folded_text.specs.FoldedText.{GivesOfRows};
+ghost use Rattle.profile_samples.specs.KnownStacks.{AreKnownStacks, HasIds};
+ghost use Rattle.folded_text.specs.FoldedText.{GivesOfRows, HasWeight, IsLineFault};
+ghost use Rattle.ordered_rows.specs.StackFrames.{frames_of};
 
 use crate::exporting::{ValueUnit, exported_draft};
+use crate::known_stacks::KnownStacks;
 use basics::NoMemory;
 use bumpalo::Bump;
-use folded_text::{FoldedFault, LineTaker, read_row, take_lines};
+use folded_text::{FoldedFault, LineTaker, fitting, read_stack, stack_and_weight, take_lines};
 use name_counts::NumberedRow;
 use pprof_profile::{WrittenSamples, encode_around};
 use profile_rows::Hashing;
@@ -19,6 +22,7 @@ use std::alloc::Global;
 #[derive(Drop)]
 struct SampledRows<'a> {
     row: NumberedRow<'a>,
+    known: KnownStacks<'a>,
     samples: WrittenSamples,
     ids: Vec<u64>,
     total: u64,
@@ -37,12 +41,71 @@ fn replace_ids(ids: &mut Vec<u64>, numbers: &[usize]) -> Result<(), NoMemory>
     Ok(())
 }
 
+/// Puts the ids of the locations of a stack's frames in the place of others, where its row can follow rows of the
+/// weight `earlier`.
+fn read_new(
+    row: &mut NumberedRow,
+    ids: &mut Vec<u64>,
+    stack: &str,
+    weight: u64,
+    earlier: u64,
+    number: u64,
+) -> Result<(), FoldedFault>
+    requires line { (line : List ℕ) × All (λ byte. byte ≢ 10) line × HasWeight line stack.now weight }
+    requires earlier { earlier < 2 ^ 63 }
+    ensures { (line : List ℕ) → All (λ byte. byte ≢ 10) line → HasWeight line stack.now weight → MatchResult result
+        (λ done. HasIds earlier line stack.now weight row.old.texts row.new.texts ids.new.items
+        × (row.new.frames ≡ frames_of stack.now)) (IsLineFault earlier number line) }
+{
+    read_stack(row, stack, weight, earlier, number)?;
+    Ok(replace_ids(ids, row.numbers())?)
+}
+
+impl<'a> SampledRows<'a> {
+    /// As [`read_new`], and a stack that is known isn't cut again.
+    fn read_ids(&mut self, stack: &'a str, weight: u64, number: u64) -> Result<(), FoldedFault>
+        requires line { (line : List ℕ) × All (λ byte. byte ≢ 10) line × HasWeight line stack.now weight }
+        requires total { self.old.total < 2 ^ 63 }
+        requires known { AreKnownStacks self.old.row.texts self.old.known }
+        ensures { (line : List ℕ) → All (λ byte. byte ≢ 10) line → HasWeight line stack.now weight → MatchResult result
+            (λ done. HasIds self.old.total line stack.now weight self.old.row.texts self.new.row.texts
+            self.new.ids.items × AreKnownStacks self.new.row.texts self.new.known
+            × (self.new.samples ≡ self.old.samples) × (self.new.total ≡ self.old.total))
+            (IsLineFault self.old.total number line) }
+    {
+        if !self.known.saves_work(stack) {
+            return read_new(
+                &mut self.row,
+                &mut self.ids,
+                stack,
+                weight,
+                self.total,
+                number,
+            );
+        }
+        if let Some(numbers) = self.known.find(stack) {
+            fitting(numbers.len(), weight, self.total, number)?;
+            return Ok(replace_ids(&mut self.ids, numbers)?);
+        }
+        read_new(
+            &mut self.row,
+            &mut self.ids,
+            stack,
+            weight,
+            self.total,
+            number,
+        )?;
+        Ok(self.known.add(stack, self.row.numbers())?)
+    }
+}
+
 impl<'a> LineTaker<'a> for SampledRows<'a> {
-    ghost is_of = { λ sampled rows. AreSamplesOf rows sampled.row.texts sampled.samples sampled.total };
+    ghost is_of = { λ sampled rows. AreSamplesOf rows sampled.row.texts sampled.samples sampled.total
+        × AreKnownStacks sampled.row.texts sampled.known };
 
     fn take_line(&mut self, line: &'a str, number: u64) -> Result<(), FoldedFault> {
-        let weight = read_row(&mut self.row, line, self.total, number)?;
-        replace_ids(&mut self.ids, self.row.numbers())?;
+        let (stack, weight) = stack_and_weight(line, number)?;
+        self.read_ids(stack, weight, number)?;
         self.samples.push(self.ids.as_slice(), &[weight as i64])?;
         self.total += weight;
         Ok(())
@@ -77,7 +140,8 @@ fn exported_bytes<'a>(
     kind: &str,
     unit: &str,
 ) -> Result<Vec<u8>, FoldedFault>
-    requires { AreSamplesOf [] rows.old.row.texts rows.old.samples rows.old.total }
+    requires samples { AreSamplesOf [] rows.old.row.texts rows.old.samples rows.old.total }
+    requires known { AreKnownStacks rows.old.row.texts rows.old.known }
     ensures { GivesOfRows text.now (λ rows bytes. IsExportOf kind.now unit.now rows bytes.items) result }
 {
     take_lines(text, rows)?;
@@ -85,9 +149,12 @@ fn exported_bytes<'a>(
 }
 
 /// Folded text as a profile's bytes: those that [`encode`](pprof_profile::encode) gives of
-/// [`profile_of`](crate::profile_of) the batch of one value that [`read_folded`](crate::read_folded) reads. Neither
-/// rows nor samples are kept: memory is for the bytes and the names. The bytes are a profile, which
-/// [`decode`](pprof_profile::decode) reads. `hashing` says how names are hashed.
+/// [`profile_of`](crate::profile_of) the batch of one value that [`read_folded`](crate::read_folded) reads. The bytes
+/// are a profile, which [`decode`](pprof_profile::decode) reads. `hashing` says how names and stack texts are hashed.
+///
+/// Neither rows nor samples are kept: memory is for the bytes and the names. The numbers of a stack's names are kept by
+/// its text, as long as that saves work: while these texts are at most three quarters of the lines, or fewer than some
+/// thousand in a megabyte.
 ///
 /// # Errors
 ///
@@ -104,6 +171,7 @@ pub fn export_folded(
     let arena = Bump::new(alloc);
     let mut rows = SampledRows {
         row: NumberedRow::new(alloc, hashing, &arena),
+        known: KnownStacks::new(alloc, hashing),
         samples: WrittenSamples::new(alloc),
         ids: Vec::new(alloc),
         total: 0,

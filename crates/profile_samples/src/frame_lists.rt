@@ -54,6 +54,17 @@ fn each_once(
 }
 
 impl FrameLists {
+    /// No lists. Takes no memory.
+    pub fn new(alloc: Global) -> FrameLists
+        ensures { result ≡ [] }
+    {
+        FrameLists {
+            numbers: Vec::new(alloc),
+            spans: Vec::new(alloc),
+            deepest: 0,
+        }
+    }
+
     /// No lists, and memory for so many.
     pub fn with_capacity(alloc: Global, count: usize) -> Result<FrameLists, AllocError>
         ensures { IfOk result (λ lists. lists ≡ []) }

@@ -2,7 +2,8 @@
 use Rattle.std.proofs.lemmas.Grind.{common_steps}
 use Rattle.std.proofs.Common.{◌+◌, arith}
 use Rattle.std.proofs.lemmas.Str.Parse.{digit_at}
-use Rattle.folded_text.proofs.Counts.{digits_value-first, digits_value-next}
+use Rattle.std.proofs.lemmas.Str.Parse.{digits_value-take-le}
+use Rattle.folded_text.proofs.Counts.{digits_value-next}
 use Rattle.folded_text.proofs.folded.weight_from.Goals as goal
 
 pub overflow_sub-byte : goal.overflow_sub-byte
@@ -13,7 +14,7 @@ returns-then-weight-digit c =
     let digits = c.args.digits.now in
     let at = c.loop-byte.byte-index in
     let next = digits_value-next digits at c.requires (grind (arith, common_steps)) in
-    let first = digits_value-first digits (at + 1) in
+    let first = digits_value-take-le 10 digits (at + 1) (omega arith) in
     grind (arith, common_steps, next, first)
 
 pub loop-byte-preserved : goal.loop-byte-preserved

@@ -11,5 +11,5 @@ returns-in_err-take_lines c = gives_of_rows c.args.text.now _ _ (grind (arith, c
 
 pub returns : goal.returns
 returns c =
-    let (rows, folded, so_far) = c.in_ok-take_lines.ensures in
+    let (rows, folded, (so_far, known)) = c.in_ok-take_lines.ensures in
     gives_of_rows c.args.text.now _ (Ok _) (rows, folded, c.in_ok-profile_bytes.ensures rows so_far)

@@ -1,33 +1,32 @@
 -- The row's sample has the ids of its names, and its weight for its value.
-use Rattle.std.proofs.Common.{◌≡◌, ◌+◌, ◌<◌, ◌^◌, arith, map, reverse, refl, ap, ◌∙◌}
-use mathlib.Core.List.{map-map}
+use Rattle.std.proofs.Common.{◌+◌, ap, map, ◌∙◌}
 use Rattle.std.specs.Int.{w64}
 use Rattle.std.proofs.lemmas.Int.{to_z_pos}
+use Rattle.ordered_rows.specs.StackFrames.{frames_of}
 use Rattle.profile_samples.specs.Export.{exported_sample}
 use Rattle.profile_rows.specs.Values.{singles}
-use Rattle.name_counts.specs.TextTables.{number_in}
 use Rattle.profile_samples.proofs.ExportedRows.{AreSamplesOf-push}
 use Rattle.profile_samples.proofs.folded_export.SampledRowsLineTaker.take_line.Goals as goal
 
 pub returns : goal.returns
 returns c = λ before so_far within.
-    let weight = c.in_ok-weight.weight in
-    let (stands, this) = c.in_ok-weight.ensures in
-    let small : weight < 2 ^ 63 = omega (arith, this.fits) in
-    let texts = c.read_row.new.row.texts in
-    let frames = c.read_row.new.row.frames in
+    let (are, known) = so_far in
+    let stack = frames_of c.in_ok-stack.stack.now in
+    let weight = c.in_ok-stack.weight in
+    let this = c.in_ok-stack.ensures in
+    let (has, stay, samples_same, total_same) = c.in_ok-read_ids.ensures c.args.line.now c.requires.one_line this in
     let samples = map (exported_sample c.args.self.now.row.texts) (singles before) in (
-      record { stack = frames; weight = weight },
-      this.spelled,
-      rw (← so_far.total_rows) this.fits,
-      AreSamplesOf-push before (record { stack = frames; weight = weight })
-          c.args.self.now.row.texts texts
-          c.args.self.now.samples c.push.new.self c.replace_ids.new.ids.items c.args.self.now.total _ so_far
-          stands.names
-          (rw (c.in_ok-replace_ids.ensures, c.numbers.ensures.numbers)
-          (ap reverse (map-map (λ number. number + 1) (number_in texts) frames)))
-          refl
-          (rw (to_z_pos w64 weight small, c.as_slice.ensures.value)
-          at (c.in_ok-push.ensures.pushed samples so_far.samples_rows))
-          (rw (to_z_pos w64 weight small, c.as_slice.ensures.value) at c.in_ok-push.ensures.fits),
+      record { stack = stack; weight = weight },
+      has.row.spelled,
+      rw (← are.total_rows) has.row.fits,
+      (
+        AreSamplesOf-push before (record { stack = stack; weight = weight })
+            c.args.self.now.row.texts c.read_ids.new.self.row.texts
+            c.args.self.now.samples c.push.new.self c.read_ids.new.self.ids.items c.args.self.now.total _ are
+            has.names has.ids_are (ap (λ total. total + weight) total_same)
+            (rw (to_z_pos w64 weight this.small, c.as_slice.ensures.value)
+            at (c.in_ok-push.ensures.pushed samples (samples_same ∙ are.samples_rows)))
+            (rw (to_z_pos w64 weight this.small, c.as_slice.ensures.value) at c.in_ok-push.ensures.fits),
+        stay,
+      ),
     )

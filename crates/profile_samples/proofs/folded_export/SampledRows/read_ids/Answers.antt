@@ -1,0 +1,122 @@
+-- A stack that is known adds no name, and its row can follow as a new one's can.
+use Rattle.std.proofs.Common.{◌≡◌, ◌+◌, ℕ, List, length, map, refl, sym, ap, ◌∙◌, arith, subst}
+use mathlib.Core.List.{map-map}
+use Rattle.std.specs.Prelude.{reverse}
+use Rattle.std.proofs.lemmas.List.{length-map}
+use Rattle.std.proofs.lemmas.Result.{MatchResult-weaker, err_from_is_err_and}
+use Rattle.name_counts.specs.TextTables.{number_in, with_texts}
+use Rattle.folded_text.proofs.Reading.{IsLineFault-fitting, IsLineFault-memory, IsRowLine-read, text_one_line}
+use Rattle.ordered_rows.specs.StackFrames.{frames_of}
+use Rattle.ordered_rows.proofs.FrameNames.{frames_of-IsName}
+use Rattle.profile_samples.specs.KnownStacks.{AreKnownStacks, IsKnownStack}
+use Rattle.profile_samples.specs.declared.known_stacks.KnownStacks.{KnownStacks}
+use Rattle.profile_samples.proofs.ExportLaws.{AllStand, stand_where, with_texts-own}
+use Rattle.profile_samples.proofs.KnownStacks.{AreListed-more, none_added}
+use Rattle.profile_samples.proofs.folded_export.SampledRows.read_ids.Goals as goal
+
+-- what is known stays so as a stack's frames are added to the names
+still_known : (before after frames : List (List ℕ)) (known : KnownStacks)
+    → after ≡ with_texts before frames → AreKnownStacks before known → AreKnownStacks after known
+still_known before after frames known added all =
+    subst (λ names. AreKnownStacks names known) (sym added)
+    (AreListed-more before frames known.texts.texts known.lists all)
+
+-- a known stack has as many numbers as frames
+many : (names : List (List ℕ)) (text numbers : List ℕ)
+    → IsKnownStack names text numbers → length numbers ≡ length (frames_of text)
+many names text numbers this = ap length this.numbered ∙ length-map (frames_of text) (number_in names)
+
+pub returns-then-not-saves_work : goal.returns-then-not-saves_work
+returns-then-not-saves_work c = λ line one this.
+    let texts = c.args.self.now.row.texts in
+    let known = c.saves_work.ensures texts c.requires.known in
+    MatchResult-weaker c.read_new.result (c.read_new.ensures line one this)
+    (λ done has. (
+      has.0,
+      still_known texts c.read_new.new.row.texts (frames_of c.args.stack.now) c.saves_work.new.self
+          has.0.names known,
+      refl,
+      refl,
+    )) (λ fault there. there)
+
+pub returns-in_err-fitting : goal.returns-in_err-fitting
+returns-in_err-fitting c = λ line one this.
+    let texts = c.args.self.now.row.texts in
+    let found = c.in-Some.ensures texts (c.saves_work.ensures texts c.requires.known) in
+    let told = err_from_is_err_and c.from_residual.result c.from_residual.ensures.1 in
+    rw (told.1, told.2) (IsLineFault-fitting _ _ line c.args.stack.now _ _ _ this
+    (many texts c.args.stack.now c.in-Some.numbers.now found) c.in_err-fitting.ensures)
+
+pub replace_ids-requires : goal.replace_ids-requires
+replace_ids-requires c =
+    let texts = c.args.self.now.row.texts in
+    (c.in-Some.ensures texts (c.saves_work.ensures texts c.requires.known)).fits
+
+pub returns-in_err-replace_ids : goal.returns-in_err-replace_ids
+returns-in_err-replace_ids c = λ line one this.
+    let texts = c.args.self.now.row.texts in
+    let found = c.in-Some.ensures texts (c.saves_work.ensures texts c.requires.known) in
+    let (most, fits) = c.in_ok-fitting.ensures in
+    let told = err_from_is_err_and c.from_residual-in_err-replace_ids.result
+    c.from_residual-in_err-replace_ids.ensures.1 in
+    rw (told.1, told.2) (IsLineFault-memory _ c.args.number line c.args.stack.now _ _ this
+    (many texts c.args.stack.now c.in-Some.numbers.now found) most fits)
+
+pub returns-in-Some : goal.returns-in-Some
+returns-in-Some c = λ line one this.
+    let stack = c.args.stack.now in
+    let texts = c.args.self.now.row.texts in
+    let known = c.saves_work.ensures texts c.requires.known in
+    let found = c.in-Some.ensures texts known in
+    let (most, fits) = c.in_ok-fitting.ensures in
+    let depth = many texts stack c.in-Some.numbers.now found in (
+      record {
+        row = record {
+          spelled = IsRowLine-read line stack c.args.weight this (omega (arith, depth, most));
+          names = frames_of-IsName stack c.utf8.stack (text_one_line line stack this.digits this.count one);
+          fits = fits;
+        };
+        names = sym (none_added texts (frames_of stack) found.there);
+        ids_are = rw (c.in_ok-replace_ids.ensures, found.numbered)
+            (ap reverse (map-map (λ number. number + 1) (number_in texts) (frames_of stack)));
+      },
+      known,
+      refl,
+      refl,
+    )
+
+pub returns-in_err-read_new : goal.returns-in_err-read_new
+returns-in_err-read_new c = λ line one this.
+    let told = err_from_is_err_and c.from_residual-in_err-read_new.result c.from_residual-in_err-read_new.ensures.1 in
+    rw (told.1, told.2) (c.in_err-read_new.ensures line one this)
+
+pub add-requires : goal.add-requires
+add-requires c =
+    let texts = c.args.self.now.row.texts in
+    c.in_default.ensures texts (c.saves_work.ensures texts c.requires.known)
+
+pub returns-in_err-add : goal.returns-in_err-add
+returns-in_err-add c = λ line one this.
+    let (has, frames) = c.in_ok-read_new.ensures line one this in
+    let told = err_from_is_err_and c.from_residual-in_err-add.result c.from_residual-in_err-add.ensures.1 in
+    rw (told.1, told.2)
+    (record { stack = frames_of c.args.stack.now; weight = c.args.weight }, has.row.spelled, has.row.fits)
+
+pub returns : goal.returns
+returns c = λ line one this.
+    let stack = frames_of c.args.stack.now in
+    let texts = c.args.self.now.row.texts in
+    let after = c.read_new-2.new.row.texts in
+    let (has, frames) = c.in_ok-read_new.ensures line one this in
+    let known = still_known texts after stack c.saves_work.new.self has.names
+    (c.saves_work.ensures texts c.requires.known) in (
+      has,
+      c.in_ok-add.ensures after known (record {
+        there = subst (λ names. AllStand names stack) (sym has.names)
+            (stand_where stack (with_texts texts stack) (with_texts-own texts stack));
+        numbered = c.numbers.ensures.numbers ∙ ap (map (number_in after)) frames;
+        fits = c.numbers.ensures.fits;
+      }),
+      refl,
+      refl,
+    )

@@ -1,0 +1,69 @@
+//! Stacks by their texts, so that one that comes again isn't cut again.
+
+ghost use Rattle.std.specs.Prelude.{ℕ, ◌≡◌, List, MatchOption, OnOk, length};
+ghost use Rattle.name_counts.specs.TextTables.{number_in};
+ghost use Rattle.profile_samples.specs.KnownStacks.{AreKnownStacks, IsKnownStack};
+
+use crate::frame_lists::FrameLists;
+use basics::NoMemory;
+use folded_text::saves_work;
+use name_counts::TextTable;
+use profile_rows::Hashing;
+use std::alloc::Global;
+
+/// The numbers of the names of stacks, by the stacks' texts. What is known of them is what contracts say of both fields
+/// together.
+#[derive(Drop)]
+pub(crate) struct KnownStacks<'a> {
+    /// The texts, each with the index of its list as its number.
+    texts: TextTable<'a>,
+    lists: FrameLists,
+    /// How many lines were looked for, and how many bytes their stacks have.
+    lines: u64,
+    bytes: usize,
+}
+
+impl<'a> KnownStacks<'a> {
+    /// No stack yet, and `hashing` says how texts will be hashed. Takes no memory.
+    pub fn new(alloc: Global, hashing: Hashing) -> KnownStacks<'a>
+        ensures { (names : List (List ℕ)) → AreKnownStacks names result }
+    {
+        KnownStacks {
+            texts: TextTable::new(alloc, hashing),
+            lists: FrameLists::new(alloc),
+            lines: 0,
+            bytes: 0,
+        }
+    }
+
+    /// Whether looking for stacks has saved work so far. Counts a line of this stack text.
+    pub fn saves_work(&mut self, text: &str) -> bool
+        ensures { (names : List (List ℕ)) → AreKnownStacks names self.old → AreKnownStacks names self.new }
+    {
+        let saves = saves_work(self.texts.texts().len() as u64, self.lines, self.bytes);
+        if saves {
+            self.lines = self.lines.saturating_add(1);
+            self.bytes = self.bytes.saturating_add(text.len());
+        }
+        saves
+    }
+
+    /// The numbers of the names of a stack's frames, where its text is known.
+    pub fn find(&self, text: &str) -> Option<&[usize]>
+        ensures { (names : List (List ℕ)) → AreKnownStacks names self.now
+            → MatchOption result (number_in self.now.texts.texts text.now ≡ length self.now.texts.texts)
+            (λ numbers. IsKnownStack names text.now numbers.now) }
+    {
+        self.lists.get(self.texts.number_of(text))
+    }
+
+    /// Keeps the numbers of the names of a stack whose text isn't known.
+    pub fn add(&mut self, text: &'a str, numbers: &[usize]) -> Result<(), NoMemory>
+        requires { number_in self.old.texts.texts text.now ≡ length self.old.texts.texts }
+        ensures { (names : List (List ℕ)) → AreKnownStacks names self.old → IsKnownStack names text.now numbers.now
+            → OnOk result (AreKnownStacks names self.new) }
+    {
+        self.lists.push(numbers)?;
+        self.texts.add(text)
+    }
+}

@@ -64,8 +64,8 @@ fn sort_names(list: &mut Vec<FrameTotal>, rank: Rank) -> Result<(), AllocError>
     Ok(())
 }
 
-/// The first `count` names by the weight that `rank` chooses, in order. The others are left out before the sort, so that
-/// its time goes by `count`.
+/// The first `count` names by the weight that `rank` chooses, in order. The others are left out before the sort, so its
+/// time goes by `count`.
 fn rank_names(list: Vec<LentTotal>, rank: Rank, count: u32) -> Result<Vec<FrameTotal>, NoMemory>
     ensures { (rows : List WeightedStack) → AreSumsOf rows list.entry.items
         → IfOk result (λ first. first.items ≡ top_list_of (ranking_of rank) count rows) }
@@ -76,8 +76,8 @@ fn rank_names(list: Vec<LentTotal>, rank: Rank, count: u32) -> Result<Vec<FrameT
     Ok(first)
 }
 
-/// The top list of rows, from what their names weigh: the first `count` names by the weight that `rank` chooses, of which
-/// copies are made.
+/// The top list of rows, from what their names weigh: copies of the first `count` names by the weight that `rank`
+/// chooses.
 ///
 /// # Errors
 ///

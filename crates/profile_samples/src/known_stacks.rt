@@ -11,8 +11,8 @@ use name_counts::TextTable;
 use profile_rows::Hashing;
 use std::alloc::Global;
 
-/// The numbers of the names of stacks, by the stacks' texts. What is known of them is what contracts say of both fields
-/// together.
+/// The numbers of the names of stacks, by the stacks' texts. What is known of them is what contracts say of the texts
+/// and the lists together.
 #[derive(Drop)]
 pub(crate) struct KnownStacks<'a> {
     /// The texts, each with the index of its list as its number.

@@ -21,8 +21,8 @@ returns-in_default c = λ line one this.
     IsLineFault-memory _ c.args.number line c.args.stack.now _ _ this c.measured.ensures.depth most fits
 
 -- there are as many numbers as frames
-many : (numbers : List ℕ) (row : NumberedFrames) (stack : List (List ℕ)) → numbers ≡ map (number_in row.texts) row.frames
-    → row.frames ≡ stack → length numbers ≡ length stack
+many : (numbers : List ℕ) (row : NumberedFrames) (stack : List (List ℕ))
+    → numbers ≡ map (number_in row.texts) row.frames → row.frames ≡ stack → length numbers ≡ length stack
 many numbers row stack are is = ap length are ∙ length-map row.frames (number_in row.texts) ∙ ap length is
 
 pub returns : goal.returns

@@ -39,4 +39,5 @@ pub returns : goal.returns
 returns c =
     gives_totals c.args.profile.now c.args.choice c.totals_by-totals.result
     (first_of_work (AreTotalsOfSamples c.args.profile.now c.args.choice) c.args.profile.now c.args.choice
-    c.totals_by-totals.result (rw c.draft-draft.ensures.draft at (c.totals_by-totals.ensures c.args.choice c.in_ok-chosen.ensures)))
+    c.totals_by-totals.result
+    (rw c.draft-draft.ensures.draft at (c.totals_by-totals.ensures c.args.choice c.in_ok-chosen.ensures)))

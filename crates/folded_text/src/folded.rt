@@ -84,13 +84,16 @@ fn weight_from(digits: &str) -> Option<u64>
 {
     let mut weight = 0;
     for byte in digits.as_bytes() {
-        let digit = u64::from(byte - b'0');
-        if weight > (MAX_TOTAL - digit) / 10 {
+        if weight > MAX_TOTAL / 10 {
             return None;
         }
-        weight = 10 * weight + digit;
+        weight = 10 * weight + u64::from(byte - b'0');
     }
-    Some(weight)
+    if weight <= MAX_TOTAL {
+        Some(weight)
+    } else {
+        None
+    }
 }
 
 /// The text of a line, which is tested unless it is known to be UTF-8.

@@ -226,7 +226,8 @@ frame_pushed old new before after was is frame number names number_is numbers ar
       names = names;
       inside = subst (λ ns. length first < length ns) (sym all) (omega (arith, many));
       fits = omega (arith, long, short);
-      frames = ap (take (length first + 1)) all ∙ take_all (length first + 1) (first ++ frame ∷ []) (omega (arith, many))
+      frames = ap (take (length first + 1)) all
+          ∙ take_all (length first + 1) (first ++ frame ∷ []) (omega (arith, many))
           ∙ ap (λ ns. ns ++ frame ∷ []) (sym (take_all (length first) first (omega arith)));
     }
 

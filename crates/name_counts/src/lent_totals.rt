@@ -11,7 +11,7 @@ use std::alloc::{AllocError, Global};
 use std::marker::Model;
 
 /// What a name weighs in rows, as [`FrameTotal`] has it, but for the name's text, which stands elsewhere.
-#[derive(Debug, Drop)]
+#[derive(Drop)]
 pub struct LentTotal<'a> {
     name: &'a str,
     flat: u64,
@@ -65,32 +65,6 @@ impl<'a> LentTotal<'a> {
     {
         self.cum
     }
-
-    /// The weights with a copy of the name.
-    fn keep(&self, alloc: Global) -> Result<FrameTotal, NoMemory>
-        ensures { IfOk result (λ total. total ≡ self.now) }
-    {
-        Ok(FrameTotal {
-            name: Name::keep(alloc, self.name)?,
-            flat: self.flat,
-            cum: self.cum,
-        })
-    }
-}
-
-/// The weights of names, which stay where they are.
-///
-/// # Errors
-///
-/// `AllocError`.
-fn lent<'a>(alloc: Global, totals: &'a [FrameTotal]) -> Result<Vec<LentTotal<'a>>, AllocError>
-    ensures { IfOk result (λ lent. lent.items ≡ totals.now) }
-{
-    let mut lent = Vec::with_capacity(alloc, totals.len())?;
-    for total in totals {
-        lent.push(LentTotal::of(total))?;
-    }
-    Ok(lent)
 }
 
 /// The weights with copies of the names.
@@ -103,14 +77,18 @@ pub fn keep_totals(alloc: Global, lent: &[LentTotal]) -> Result<Vec<FrameTotal>,
 {
     let mut totals = Vec::with_capacity(alloc, lent.len())?;
     for total in lent {
-        totals.push(total.keep(alloc)?)?;
+        totals.push(FrameTotal {
+            name: Name::keep(alloc, total.name)?,
+            flat: total.flat,
+            cum: total.cum,
+        })?;
     }
     Ok(totals)
 }
 
 /// What the names of rows weigh, and what the rows weigh together, as [`FrameTotals`] has it, but for the names' texts,
 /// which stand elsewhere.
-#[derive(Debug, Drop)]
+#[derive(Drop)]
 pub struct LentTotals<'a> {
     total: u64,
     frames: Vec<LentTotal<'a>>,
@@ -148,7 +126,7 @@ impl<'a> LentTotals<'a> {
         ensures { (rows : List WeightedStack) → AreTotalsOf rows totals.now
             → IfOk result (AreTotalsOf rows) }
     {
-        let frames = lent(alloc, totals.frames.as_slice())?;
+        let frames = totals.frames.iter().map(LentTotal::of).collect(alloc)?;
         Ok(LentTotals::new(totals.total, frames))
     }
 

@@ -1,16 +1,14 @@
 -- Stacks that came before keep the numbers of their names.
 use Rattle.std.proofs.lemmas.Grind.{common_steps}
 use Rattle.std.proofs.lemmas.Option.{get_or_from_slice_get, slice_get_cases, slice_get_within}
-use Rattle.std.proofs.Common.{arith, ◌≡◌, ℕ, zero, suc, ◌<◌, ◌≤◌, List, [], ◌∷◌, ◌++◌, Option, Some, None}
+use Rattle.std.proofs.Common.{arith, ◌≡◌, ℕ, zero, suc, ◌<◌, ◌≤◌, List, [], ◌∷◌, ◌++◌, Some, None}
 use Rattle.std.proofs.Common.{length, map, refl, sym, ap, ◌∙◌, subst}
-use Rattle.std.specs.Prelude.{MatchOption, slice_get, slice_index_or}
-use Rattle.std.specs.Option.{option_map}
-use Rattle.name_counts.specs.TextTables.{number_in, with_text, with_texts}
-use Rattle.name_counts.proofs.TextNumbers.{none_at_end, number_in-le, text_of_number}
+use Rattle.std.specs.Prelude.{slice_get, slice_index_or}
+use Rattle.name_counts.specs.TextTables.{number_in, with_texts}
+use Rattle.name_counts.proofs.TextNumbers.{number_in-le, text_of_number}
 use Rattle.profile_samples.specs.KnownStacks.{AreListed, IsKnownStack}
 use Rattle.profile_samples.proofs.ExportLaws.{AllStand, number_in-withs, with_texts-stands}
 use Rattle.ordered_rows.specs.StackFrames.{frames_of}
-use denote.Ref.{Bor}
 
 -- ---- as more names come
 
@@ -45,20 +43,13 @@ none_added names (frame ∷ frames) all = rw (all.0) (none_added names frames al
 
 -- ---- a stack more
 
-listed_push : (names texts lists : List (List ℕ)) (text list : List ℕ) → AreListed names texts lists
+pub AreListed-push : (names texts lists : List (List ℕ)) (text list : List ℕ) → AreListed names texts lists
     → IsKnownStack names text list → AreListed names (texts ++ text ∷ []) (lists ++ list ∷ [])
-listed_push names [] [] text list all this = (this, refl)
-listed_push names [] (other ∷ lists) text list all this = cc
-listed_push names (first ∷ texts) [] text list all this = absurd all
-listed_push names (first ∷ texts) (other ∷ lists) text list all this =
-    (all.0, listed_push names texts lists text list all.1 this)
-
-pub AreListed-push : (names texts lists after next : List (List ℕ)) (text list : List ℕ)
-    → number_in texts text ≡ length texts → after ≡ with_text texts text → next ≡ lists ++ list ∷ []
-    → AreListed names texts lists → IsKnownStack names text list → AreListed names after next
-AreListed-push names texts lists after next text list missing added pushed all this =
-    rw (added, pushed, none_at_end texts text (omega (arith, missing)))
-    (listed_push names texts lists text list all this)
+AreListed-push names [] [] text list all this = (this, refl)
+AreListed-push names [] (other ∷ lists) text list all this = cc
+AreListed-push names (first ∷ texts) [] text list all this = absurd all
+AreListed-push names (first ∷ texts) (other ∷ lists) text list all this =
+    (all.0, AreListed-push names texts lists text list all.1 this)
 
 -- ---- a stack that is looked for
 
@@ -77,17 +68,18 @@ listed_at names (text ∷ texts) (list ∷ lists) (suc at) all lt = listed_at na
 past_all : (lists : List (List ℕ)) (at : ℕ) → slice_get lists at ≡ None → length lists ≤ at
 past_all lists at none = grind (arith, common_steps, slice_get_cases lists at)
 
-pub stack_found : (names texts lists : List (List ℕ)) (text : List ℕ) (at : ℕ) (found : Option (Bor (List ℕ)))
-    → at ≡ number_in texts text → option_map (λ (list : Bor (List ℕ)). list.now) found ≡ slice_get lists at
-    → AreListed names texts lists
-    → MatchOption found (number_in texts text ≡ length texts) (λ numbers. IsKnownStack names text numbers.now)
-stack_found names texts lists text at None at_is none all =
-    let end : length lists ≤ at = past_all lists at (sym none) in
-    omega (arith, at_is, end, many names texts lists all, number_in-le texts text)
-stack_found names texts lists text at (Some numbers) at_is is all =
+pub stack_missing : (names texts lists : List (List ℕ)) (text : List ℕ) → AreListed names texts lists
+    → None ≡ slice_get lists (number_in texts text) → number_in texts text ≡ length texts
+stack_missing names texts lists text all none =
+    let end : length lists ≤ number_in texts text = past_all lists (number_in texts text) (sym none) in
+    omega (arith, end, many names texts lists all, number_in-le texts text)
+
+pub stack_found : (names texts lists : List (List ℕ)) (text numbers : List ℕ) → AreListed names texts lists
+    → Some numbers ≡ slice_get lists (number_in texts text) → IsKnownStack names text numbers
+stack_found names texts lists text numbers all is =
+    let at = number_in texts text in
     let within : at < length texts =
-    subst (λ n. at < n) (many names texts lists all) (slice_get_within lists at numbers.now (sym is)) in
-    subst (λ list. IsKnownStack names text list) (get_or_from_slice_get lists at numbers.now [] (sym is))
-    (subst (λ t. IsKnownStack names t (slice_index_or lists at []))
-    (ap (λ k. slice_index_or texts k []) at_is ∙ text_of_number texts text (subst (λ k. k < length texts) at_is within))
+    subst (λ n. at < n) (many names texts lists all) (slice_get_within lists at numbers (sym is)) in
+    subst (λ list. IsKnownStack names text list) (get_or_from_slice_get lists at numbers [] (sym is))
+    (subst (λ t. IsKnownStack names t (slice_index_or lists at [])) (text_of_number texts text within)
     (listed_at names texts lists at all within))

@@ -6,6 +6,7 @@ use Rattle.name_counts.specs.TextTables.{number_in, with_texts}
 use Rattle.ordered_rows.specs.StackFrames.{frames_of}
 use Rattle.folded_text.specs.FoldedText.{IsRowAfter}
 use Rattle.profile_samples.specs.Export.{id_in}
+use Rattle.profile_samples.specs.declared.folded_export.SampledRows.{SampledRows}
 use Rattle.profile_samples.specs.declared.known_stacks.KnownStacks.{KnownStacks}
 
 -- the frames of a stack text are among the names, and have these numbers
@@ -23,9 +24,10 @@ AreListed names (text ∷ texts) (list ∷ lists) = IsKnownStack names text list
 abbrev pub AreKnownStacks : List (List ℕ) → KnownStacks → Type 0
 AreKnownStacks names known = AreListed names known.texts.texts known.lists
 
--- the line's row can follow rows of the weight `earlier`; its frames were added to the names, and have these ids
-pub record HasIds (earlier : ℕ) (line stack : List ℕ) (weight : ℕ) (before after : List (List ℕ))
-    (ids : List ℕ) : Type 0 where
-  pub row : IsRowAfter earlier line (record { stack = frames_of stack; weight = weight })
-  pub names : after ≡ with_texts before (frames_of stack)
-  pub ids_are : ids ≡ reverse (map (id_in after) (frames_of stack))
+-- the line's row can follow the others; its frames were added to the names, and have these ids
+pub record HasRead (line stack : List ℕ) (weight : ℕ) (before after : SampledRows) : Type 0 where
+  pub row : IsRowAfter before.total line (record { stack = frames_of stack; weight = weight })
+  pub names : after.row.texts ≡ with_texts before.row.texts (frames_of stack)
+  pub ids_are : after.ids.items ≡ reverse (map (id_in after.row.texts) (frames_of stack))
+  pub samples : after.samples ≡ before.samples
+  pub total : after.total ≡ before.total

@@ -3,7 +3,7 @@
 ghost use Rattle.std.specs.Prelude.{ℕ, ◌≡◌, ◌≢◌, ◌+◌, ◌^◌, ◌<◌, [], All, IfOk, List, MatchResult, OnOk, map, reverse};
 ghost use Rattle.profile_rows.specs.declared.weighted_stacks.WeightedStack.{WeightedStack};
 ghost use Rattle.profile_samples.specs.Export.{AreSamplesOf, IsExportOf};
-ghost use Rattle.profile_samples.specs.KnownStacks.{AreKnownStacks, HasIds};
+ghost use Rattle.profile_samples.specs.KnownStacks.{AreKnownStacks, HasRead};
 ghost use Rattle.folded_text.specs.FoldedText.{GivesOfRows, HasWeight, IsLineFault};
 ghost use Rattle.ordered_rows.specs.StackFrames.{frames_of};
 
@@ -41,60 +41,36 @@ fn replace_ids(ids: &mut Vec<u64>, numbers: &[usize]) -> Result<(), NoMemory>
     Ok(())
 }
 
-/// Puts the ids of the locations of a stack's frames in the place of others, where its row can follow rows of the
-/// weight `earlier`.
-fn read_new(
-    row: &mut NumberedRow,
-    ids: &mut Vec<u64>,
-    stack: &str,
-    weight: u64,
-    earlier: u64,
-    number: u64,
-) -> Result<(), FoldedFault>
-    requires line { (line : List ℕ) × All (λ byte. byte ≢ 10) line × HasWeight line stack.now weight }
-    requires earlier { earlier < 2 ^ 63 }
-    ensures { (line : List ℕ) → All (λ byte. byte ≢ 10) line → HasWeight line stack.now weight → MatchResult result
-        (λ done. HasIds earlier line stack.now weight row.old.texts row.new.texts ids.new.items
-        × (row.new.frames ≡ frames_of stack.now)) (IsLineFault earlier number line) }
-{
-    read_stack(row, stack, weight, earlier, number)?;
-    Ok(replace_ids(ids, row.numbers())?)
-}
-
 impl<'a> SampledRows<'a> {
-    /// As [`read_new`], and a stack that is known isn't cut again.
+    /// Puts the ids of the locations of a stack's frames in the place of others, where its row can follow those before.
+    fn read_new(&mut self, stack: &str, weight: u64, number: u64) -> Result<(), FoldedFault>
+        requires line { (line : List ℕ) × All (λ byte. byte ≢ 10) line × HasWeight line stack.now weight }
+        requires total { self.old.total < 2 ^ 63 }
+        ensures { (line : List ℕ) → All (λ byte. byte ≢ 10) line → HasWeight line stack.now weight → MatchResult result
+            (λ done. HasRead line stack.now weight self.old self.new × (self.new.known ≡ self.old.known)
+            × (self.new.row.frames ≡ frames_of stack.now)) (IsLineFault self.old.total number line) }
+    {
+        read_stack(&mut self.row, stack, weight, self.total, number)?;
+        Ok(replace_ids(&mut self.ids, self.row.numbers())?)
+    }
+
+    /// As [`read_new`](Self::read_new), and a stack that is known isn't cut again.
     fn read_ids(&mut self, stack: &'a str, weight: u64, number: u64) -> Result<(), FoldedFault>
         requires line { (line : List ℕ) × All (λ byte. byte ≢ 10) line × HasWeight line stack.now weight }
         requires total { self.old.total < 2 ^ 63 }
         requires known { AreKnownStacks self.old.row.texts self.old.known }
         ensures { (line : List ℕ) → All (λ byte. byte ≢ 10) line → HasWeight line stack.now weight → MatchResult result
-            (λ done. HasIds self.old.total line stack.now weight self.old.row.texts self.new.row.texts
-            self.new.ids.items × AreKnownStacks self.new.row.texts self.new.known
-            × (self.new.samples ≡ self.old.samples) × (self.new.total ≡ self.old.total))
-            (IsLineFault self.old.total number line) }
+            (λ done. HasRead line stack.now weight self.old self.new
+            × AreKnownStacks self.new.row.texts self.new.known) (IsLineFault self.old.total number line) }
     {
-        if !self.known.saves_work(stack) {
-            return read_new(
-                &mut self.row,
-                &mut self.ids,
-                stack,
-                weight,
-                self.total,
-                number,
-            );
+        if !self.known.should_seek(stack) {
+            return self.read_new(stack, weight, number);
         }
         if let Some(numbers) = self.known.find(stack) {
             fitting(numbers.len(), weight, self.total, number)?;
             return Ok(replace_ids(&mut self.ids, numbers)?);
         }
-        read_new(
-            &mut self.row,
-            &mut self.ids,
-            stack,
-            weight,
-            self.total,
-            number,
-        )?;
+        self.read_new(stack, weight, number)?;
         Ok(self.known.add(stack, self.row.numbers())?)
     }
 }

@@ -1,8 +1,8 @@
 //! Stacks by their texts, so that one that comes again isn't cut again.
 
-ghost use Rattle.std.specs.Prelude.{ℕ, ◌≡◌, List, MatchOption, OnOk, length};
+ghost use Rattle.std.specs.Prelude.{◌≡◌, ◌++◌, ◌∷◌, [], OnOk, length, slice_get};
+ghost use Rattle.std.specs.Option.{option_map};
 ghost use Rattle.name_counts.specs.TextTables.{number_in};
-ghost use Rattle.profile_samples.specs.KnownStacks.{AreKnownStacks, IsKnownStack};
 
 use crate::frame_lists::FrameLists;
 use basics::NoMemory;
@@ -26,7 +26,7 @@ pub(crate) struct KnownStacks<'a> {
 impl<'a> KnownStacks<'a> {
     /// No stack yet, and `hashing` says how texts will be hashed. Takes no memory.
     pub fn new(alloc: Global, hashing: Hashing) -> KnownStacks<'a>
-        ensures { (names : List (List ℕ)) → AreKnownStacks names result }
+        ensures { (result.texts.texts ≡ []) × (result.lists ≡ []) }
     {
         KnownStacks {
             texts: TextTable::new(alloc, hashing),
@@ -37,8 +37,8 @@ impl<'a> KnownStacks<'a> {
     }
 
     /// Whether looking for stacks has saved work so far. Counts a line of this stack text.
-    pub fn saves_work(&mut self, text: &str) -> bool
-        ensures { (names : List (List ℕ)) → AreKnownStacks names self.old → AreKnownStacks names self.new }
+    pub fn should_seek(&mut self, text: &str) -> bool
+        ensures { (self.new.texts ≡ self.old.texts) × (self.new.lists ≡ self.old.lists) }
     {
         let saves = saves_work(self.texts.texts().len() as u64, self.lines, self.bytes);
         if saves {
@@ -50,9 +50,8 @@ impl<'a> KnownStacks<'a> {
 
     /// The numbers of the names of a stack's frames, where its text is known.
     pub fn find(&self, text: &str) -> Option<&[usize]>
-        ensures { (names : List (List ℕ)) → AreKnownStacks names self.now
-            → MatchOption result (number_in self.now.texts.texts text.now ≡ length self.now.texts.texts)
-            (λ numbers. IsKnownStack names text.now numbers.now) }
+        ensures { option_map (λ numbers. numbers.now) result
+            ≡ slice_get self.now.lists (number_in self.now.texts.texts text.now) }
     {
         self.lists.get(self.texts.number_of(text))
     }
@@ -60,8 +59,8 @@ impl<'a> KnownStacks<'a> {
     /// Keeps the numbers of the names of a stack whose text isn't known.
     pub fn add(&mut self, text: &'a str, numbers: &[usize]) -> Result<(), NoMemory>
         requires { number_in self.old.texts.texts text.now ≡ length self.old.texts.texts }
-        ensures { (names : List (List ℕ)) → AreKnownStacks names self.old → IsKnownStack names text.now numbers.now
-            → OnOk result (AreKnownStacks names self.new) }
+        ensures { OnOk result ((self.new.texts.texts ≡ self.old.texts.texts ++ text.now ∷ [])
+            × (self.new.lists ≡ self.old.lists ++ numbers.now ∷ [])) }
     {
         self.lists.push(numbers)?;
         self.texts.add(text)

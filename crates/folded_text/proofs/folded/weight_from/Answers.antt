@@ -9,8 +9,8 @@ use Rattle.folded_text.proofs.folded.weight_from.Goals as goal
 pub overflow_sub-byte : goal.overflow_sub-byte
 overflow_sub-byte c = grind (arith, common_steps, digit_at)
 
-pub returns-then-weight-digit : goal.returns-then-weight-digit
-returns-then-weight-digit c =
+pub returns-then-weight : goal.returns-then-weight
+returns-then-weight c =
     let digits = c.args.digits.now in
     let at = c.loop-byte.byte-index in
     let next = digits_value-next digits at c.requires (grind (arith, common_steps)) in

@@ -29,5 +29,6 @@ batch_by-batch-requires-clause-typed c =
 pub returns : goal.returns
 returns c =
     gives_batch c.args.profile.now c.args.choice c.batch_by-batch.result
-    (first_of_standing (IsBatchOf c.args.profile.now c.args.choice) 4 c.args.profile.now c.args.choice c.batch_by-batch.result
+    (first_of_standing (IsBatchOf c.args.profile.now c.args.choice) 4 c.args.profile.now c.args.choice
+    c.batch_by-batch.result
     (c.batch_by-batch.ensures c.args.choice (rw c.draft.ensures.draft at c.in_ok-chosen.ensures.chosen)))

@@ -38,5 +38,6 @@ merged_by-merged-requires c =
 pub returns : goal.returns
 returns c =
     gives_merged c.args.profile.now c.args.choice c.merged_by-merged.result
-    (first_of_work (IsMergedBatch c.args.profile.now c.args.choice) c.args.profile.now c.args.choice c.merged_by-merged.result
+    (first_of_work (IsMergedBatch c.args.profile.now c.args.choice) c.args.profile.now c.args.choice
+    c.merged_by-merged.result
     (rw c.draft-draft.ensures.draft at (c.merged_by-merged.ensures c.args.choice c.in_ok-chosen.ensures)))

@@ -14,7 +14,7 @@ returns c = λ before so_far within.
     let stack = frames_of c.in_ok-stack.stack.now in
     let weight = c.in_ok-stack.weight in
     let this = c.in_ok-stack.ensures in
-    let (has, stay, samples_same, total_same) = c.in_ok-read_ids.ensures c.args.line.now c.requires.one_line this in
+    let (has, stay) = c.in_ok-read_ids.ensures c.args.line.now c.requires.one_line this in
     let samples = map (exported_sample c.args.self.now.row.texts) (singles before) in (
       record { stack = stack; weight = weight },
       has.row.spelled,
@@ -23,9 +23,9 @@ returns c = λ before so_far within.
         AreSamplesOf-push before (record { stack = stack; weight = weight })
             c.args.self.now.row.texts c.read_ids.new.self.row.texts
             c.args.self.now.samples c.push.new.self c.read_ids.new.self.ids.items c.args.self.now.total _ are
-            has.names has.ids_are (ap (λ total. total + weight) total_same)
+            has.names has.ids_are (ap (λ total. total + weight) has.total)
             (rw (to_z_pos w64 weight this.small, c.as_slice.ensures.value)
-            at (c.in_ok-push.ensures.pushed samples (samples_same ∙ are.samples_rows)))
+            at (c.in_ok-push.ensures.pushed samples (has.samples ∙ are.samples_rows)))
             (rw (to_z_pos w64 weight this.small, c.as_slice.ensures.value) at c.in_ok-push.ensures.fits),
         stay,
       ),

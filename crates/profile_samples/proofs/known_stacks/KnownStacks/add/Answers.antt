@@ -1,10 +1,12 @@
--- A text that is missing comes at the end, as its list does.
+-- A text that is missing comes at the end.
+use Rattle.std.proofs.Common.{arith}
 use Rattle.std.proofs.lemmas.Result.{on_ok_weaker}
-use Rattle.profile_samples.proofs.KnownStacks.{AreListed-push}
+use Rattle.name_counts.proofs.TextNumbers.{none_at_end}
 use Rattle.profile_samples.proofs.known_stacks.KnownStacks.add.Goals as goal
 
 pub returns : goal.returns
-returns c = λ names known this.
-    on_ok_weaker c.add.result (λ added. AreListed-push names c.args.self.now.texts.texts c.args.self.now.lists
-    c.add.new.self.texts c.push.new.self c.args.text.now c.args.numbers.now c.requires added c.in_ok-push.ensures
-    known this) c.add.ensures.texts
+returns c =
+    on_ok_weaker c.add.result (λ added. (
+      rw (none_at_end c.args.self.now.texts.texts c.args.text.now (omega (arith, c.requires))) at added,
+      c.in_ok-push.ensures,
+    )) c.add.ensures.texts

@@ -1,11 +1,11 @@
 -- The ids are those of the numbers of the frames' names.
-use Rattle.std.proofs.Common.{◌+◌, ap}
+use Rattle.std.proofs.Common.{◌+◌, ap, refl}
 use mathlib.Core.List.{map-map}
 use Rattle.std.specs.Prelude.{reverse}
 use Rattle.std.proofs.lemmas.Result.{err_from_is_err_and}
 use Rattle.name_counts.specs.TextTables.{number_in}
 use Rattle.ordered_rows.specs.StackFrames.{frames_of}
-use Rattle.profile_samples.proofs.folded_export.read_new.Goals as goal
+use Rattle.profile_samples.proofs.folded_export.SampledRows.read_new.Goals as goal
 
 pub returns-in_err-read_stack : goal.returns-in_err-read_stack
 returns-in_err-read_stack c = λ line one this.
@@ -28,6 +28,9 @@ returns c = λ line one this.
         ids_are = rw (c.in_ok-replace_ids.ensures, c.numbers.ensures.numbers, stands.frames)
             (ap reverse (map-map (λ number. number + 1) (number_in c.read_stack.new.row.texts)
             (frames_of c.args.stack.now)));
+        samples = refl;
+        total = refl;
       },
+      refl,
       stands.frames,
     )

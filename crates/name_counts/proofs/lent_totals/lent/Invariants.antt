@@ -1,6 +1,0 @@
-use Rattle.std.proofs.Common.{◌≡◌, take}
-use Rattle.name_counts.proofs.lent_totals.lent.Given as goal
-
--- the names so far
-abbrev pub invariant-loop-total : goal.invariant-loop-total
-invariant-loop-total l = l.lent.items ≡ take l.total-index l.totals

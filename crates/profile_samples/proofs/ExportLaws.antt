@@ -1,7 +1,7 @@
 -- The profile of rows is valid, and its rows are those rows.
 use Rattle.std.proofs.lemmas.Grind.{common_steps}
 use Rattle.std.proofs.Common.{◌≡◌, ℕ, zero, suc, ◌<◌, ◌≤◌, Bool, true, false, ◌||◌, eqb, List, [], ◌∷◌}
-use Rattle.std.proofs.Common.{◌++◌, length, map, refl, sym, ap, ◌∙◌, subst, arith}
+use Rattle.std.proofs.Common.{◌+◌, ◌++◌, Bor, get_or, length, map, refl, sym, ap, ◌∙◌, subst, arith}
 use Rattle.std.specs.Prelude.{pos, Some, ◌==◌, reverse, slice_get, slice_index_or}
 use Rattle.std.specs.List.{All, AllByRecursion, IsDistinct, list_all, list_any, flat_map}
 use Rattle.std.specs.Str.{bytes_eq}
@@ -18,7 +18,7 @@ use Rattle.name_counts.specs.Tallies.{AreSingle}
 use Rattle.profile_rows.specs.Values.{Row, value_of}
 use Rattle.profile_samples.specs.Batches.{AreRowsOfSamples}
 use Rattle.profile_samples.specs.Samples.{IsRowOfSample, frames_of_id, item_with}
-use Rattle.name_counts.specs.TextTables.{number_in, with_text, with_texts}
+use Rattle.name_counts.specs.TextTables.{no_text, number_in, with_text, with_texts}
 use Rattle.profile_samples.specs.Export.{KindAndUnit, exported_function, exported_location, exported_profile_of}
 use Rattle.profile_samples.specs.Export.{exported_sample, exported_type, id_in, names_of, profile_with}
 use Rattle.profile_samples.specs.Export.{strings_of, unit_texts}
@@ -26,7 +26,8 @@ use Rattle.profile_rows.proofs.Cleaning.{cleaned-name}
 use Rattle.name_counts.proofs.NumberedRows.{none_single, single_with}
 use Rattle.profile_rows.proofs.SameNames.{same_from_is_same_name, is_same_name-self}
 use Rattle.profile_rows.proofs.Members.{list_any-map}
-use Rattle.name_counts.proofs.TextNumbers.{any_push, number_in-kept, number_in-lt, text_of_number}
+use Rattle.name_counts.proofs.TallyLaws.{number_in-own}
+use Rattle.name_counts.proofs.TextNumbers.{any_push, number_in-kept, number_in-lt, shown_at, text_of_number}
 use Rattle.pprof_profile.specs.declared.messages.Function.{Function}
 use Rattle.pprof_profile.specs.declared.messages.Location.{Location}
 
@@ -120,6 +121,20 @@ ids_single names (text ∷ sub) all apart =
     rw (known_id names sub text all.0 all.1, none_same text sub apart.0, ids_single names sub all.1 apart.1) refl
 
 -- ---- ids of what is exported
+
+-- names that came one after the other are there once each
+pub added-AreSingle : (names more : List (List ℕ)) → names ≡ with_texts [] more → AreSingle names
+added-AreSingle names more is = rw is (single_with [] more none_single)
+
+-- the id of a name is its place, from 1
+pub id_of_place : (items : List (Bor (List ℕ))) (names : List (List ℕ)) (place : ℕ)
+    → map (λ (text : Bor (List ℕ)). text.now) items ≡ names → AreSingle names → place < length items
+    → place + 1 ≡ id_in names (get_or items place no_text).now
+id_of_place items names place is single lt =
+    let long = length-map items (λ (text : Bor (List ℕ)). text.now) in
+    let many = ap length is in
+    ap (λ number. number + 1) (sym (number_in-own names place single (omega (arith, lt, long, many))))
+    ∙ ap (λ name. id_in names name) (ap (λ texts. get_or texts place []) (sym is) ∙ shown_at items place no_text)
 
 id_not_zero : (names : List (List ℕ)) (text : List ℕ) → (id_in names text == 0) ≡ false
 id_not_zero names text = ne_eqb (id_in names text) 0 (λ e. absurd (omega (arith, e)))

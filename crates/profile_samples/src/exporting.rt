@@ -8,6 +8,7 @@ ghost use Rattle.profile_samples.specs.Export.{draft_with, exported_draft, expor
 ghost use Rattle.profile_samples.specs.Export.{exported_profile_of, exported_sample, exported_type, id_in, pairs_of};
 ghost use Rattle.profile_samples.specs.Export.{profile_with, strings_of, unit_texts};
 ghost use Rattle.profile_samples.specs.Batches.{IsBatchOf};
+ghost use Rattle.name_counts.specs.Tallies.{AreSingle};
 ghost use Rattle.name_counts.specs.TextTables.{with_texts};
 ghost use Rattle.profile_samples.specs.declared.sampling.ValueChoice.TheVariants as choices;
 
@@ -113,13 +114,14 @@ fn functions_of(
     names: &TextTable,
     strings: &TextTable,
 ) -> Result<Items<Function>, NoMemory>
+    requires { AreSingle names.now.texts }
     ensures { IfOk result (λ functions. functions
         ≡ map (exported_function names.now.texts strings.now.texts) names.now.texts) }
 {
     let mut functions = Vec::with_capacity(alloc, names.texts().len())?;
-    for name in names.texts() {
+    for (index, name) in names.texts().iter().enumerate() {
         functions.push(Function {
-            id: id_in(names, *name),
+            id: index as u64 + 1,
             name: strings.number_of(*name) as i64,
             system_name: 0,
             filename: 0,
@@ -131,11 +133,12 @@ fn functions_of(
 
 /// The locations of the names.
 fn locations_of(alloc: Global, names: &TextTable) -> Result<Items<Location>, NoMemory>
+    requires { AreSingle names.now.texts }
     ensures { IfOk result (λ locations. locations ≡ map (exported_location names.now.texts) names.now.texts) }
 {
     let mut locations = Vec::with_capacity(alloc, names.texts().len())?;
-    for name in names.texts() {
-        let id = id_in(names, *name);
+    for index in 0..names.texts().len() {
+        let id = index as u64 + 1;
         let line = Line {
             function_id: id,
             line: 0,
@@ -234,6 +237,7 @@ fn draft_with(
     strings: &TextTable,
     units: &[ValueUnit],
 ) -> Result<Draft, NoMemory>
+    requires { AreSingle names.now.texts }
     ensures { IfOk result (λ draft. draft ≡ draft_with names.now.texts strings.now.texts []
         (map (exported_type strings.now.texts) (pairs_of units.now))) }
 {
@@ -266,6 +270,7 @@ pub(crate) fn exported_draft(
     names: &TextTable,
     units: &[ValueUnit],
 ) -> Result<Draft, NoMemory>
+    requires { AreSingle names.now.texts }
     ensures { IfOk result (λ draft. draft ≡ exported_draft names.now.texts (pairs_of units.now)) }
 {
     let strings = strings_of(alloc, hashing, units, names)?;
@@ -289,6 +294,7 @@ fn draft_of(
     batch: &Batch,
     units: &[ValueUnit],
 ) -> Result<Draft, NoMemory>
+    requires { AreSingle names.now.texts }
     ensures { IfOk result (λ draft. draft ≡ profile_with names.now.texts
         (strings_of (pairs_of units.now) names.now.texts) batch.now.rows (pairs_of units.now)) }
 {

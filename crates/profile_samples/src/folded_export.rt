@@ -96,6 +96,8 @@ fn profile_bytes(
     kind: &str,
     unit: &str,
 ) -> Result<Vec<u8>, NoMemory>
+    requires { (all : List WeightedStack)
+        × AreSamplesOf all rows.now.row.texts rows.now.samples rows.now.total }
     ensures { (all : List WeightedStack)
         → AreSamplesOf all rows.now.row.texts rows.now.samples rows.now.total
         → IfOk result (λ bytes. IsExportOf kind.now unit.now all bytes.items) }

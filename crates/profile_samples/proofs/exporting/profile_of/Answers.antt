@@ -5,7 +5,14 @@ use Rattle.profile_samples.specs.Export.{exported_profile_of, names_of, pair_of,
 use Rattle.name_counts.specs.TextTables.{with_texts}
 use Rattle.profile_samples.proofs.ExportedBatches.{export_batch, export_one}
 use Rattle.profile_samples.proofs.ExportedRows.{stacks_first}
+use Rattle.std.specs.List.{flat_map}
+use Rattle.profile_rows.specs.declared.weighted_stacks.WeightedStack.{WeightedStack}
+use Rattle.profile_samples.proofs.ExportLaws.{added-AreSingle}
 use Rattle.profile_samples.proofs.exporting.profile_of.Goals as goal
+
+pub draft_of-draft-requires : goal.draft_of-draft-requires
+draft_of-draft-requires c =
+    added-AreSingle _ (flat_map (λ (row : WeightedStack). row.stack) c.rows.result.now) c.in_ok-names.ensures.texts
 
 pub returns-in-Ok : goal.returns-in-Ok
 returns-in-Ok c =

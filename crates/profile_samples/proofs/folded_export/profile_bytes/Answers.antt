@@ -7,12 +7,18 @@ use Rattle.pprof_profile.specs.declared.messages.Draft.{Draft}
 use Rattle.pprof_profile.specs.Profiles.{IsProfile}
 use Rattle.pprof_profile.specs.Valid.{IsValidDraft}
 use Rattle.profile_rows.specs.declared.weighted_stacks.WeightedStack.{WeightedStack}
-use Rattle.profile_rows.specs.Values.{singles}
+use Rattle.std.specs.List.{flat_map}
+use Rattle.profile_rows.specs.Values.{Row, singles}
 use Rattle.profile_samples.specs.Export.{exported_draft, exported_sample, names_of, profile_with, single_profile_of}
 use Rattle.profile_samples.specs.Export.{IsExportOf, strings_of}
-use Rattle.profile_samples.proofs.ExportLaws.{export_valid}
+use Rattle.profile_samples.proofs.ExportLaws.{added-AreSingle, export_valid}
 use Rattle.profile_samples.proofs.SampleBatches.{widths-singles}
 use Rattle.profile_samples.proofs.folded_export.profile_bytes.Goals as goal
+
+pub exported_draft-requires : goal.exported_draft-requires
+exported_draft-requires c =
+    let (all, are) = c.requires in
+    rw (c.names.ensures) (added-AreSingle _ (flat_map (λ (row : Row). row.stack) (singles all)) are.names_rows)
 
 -- with the samples of the rows the draft is their profile
 filled : (draft : Draft) (names : List (List ℕ)) (kind unit : List ℕ)

@@ -1,12 +1,12 @@
 //! Faults that no input makes: how they are printed, and how the program ends by them.
 
+use crate::scripts::{Made, Words, Wrong};
 use flame_program::{Outcome, Status, ToolFault};
 use live_report::LiveFault;
 use profile_store::{
     AuditFault, BatchFault, BookFault, FoldedFault, MakeFault, NameFault, NoMemory, ProfileFault,
     PushFault, SessionFault, WorkersFault,
 };
-use row_scripts::{Made, Words, Wrong};
 
 /// What calls answer that are out of memory.
 fn tell_memory(made: &mut Made) {

@@ -1,7 +1,7 @@
 //! Where hashes begin.
 
+use crate::scripts::{Made, Words, Wrong};
 use profile_store::Hashing;
-use row_scripts::{Made, Words, Wrong};
 use std::hash::BuildHasher;
 use std::io;
 use std::io::ErrorKind;

@@ -1,9 +1,9 @@
 //! What `live` writes: `live sessions 2 all warm`.
 
-use library_steps::batch_of;
+use crate::library::batch_of;
+use crate::scripts::{Made, Words, Wrong};
 use live_report::{LiveOptions, Progress, live_text};
 use profile_store::{Batch, Hashing};
-use row_scripts::{Made, Words, Wrong};
 use std::sync::atomic::{AtomicU64, Ordering};
 use std::sync::{Arc, Wait};
 use std::thread::Threads;

@@ -1,8 +1,8 @@
 //! A window that sources fill, each in a thread of its own, while a watcher asks.
 
-use library_steps::{add_total, batch_of, is_total, query_of, width_of};
+use crate::library::{add_total, batch_of, is_total, query_of, width_of};
+use crate::scripts::{Made, Words};
 use profile_store::{Answer, Batch, BookFault, Hashing, Query};
-use row_scripts::{Made, Words};
 use std::sync::atomic::{AtomicU64, Ordering};
 use std::sync::{Arc, Mutex, MutexGuard, Wait};
 use std::thread::Threads;

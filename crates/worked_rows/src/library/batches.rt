@@ -127,6 +127,7 @@ fn agree_on_lent_rows(batch: &Batch, made: &mut Made) {
         }
     }
     made.agree("Batch::rows", lent == *batch);
+    drop(lent);
 }
 
 fn push(batch: &mut Batch, stack: Stack, weights: Weights, made: &mut Made) {

@@ -18,6 +18,7 @@ pub(crate) fn make_draft(input: &[u8], made: &mut Made) {
         add_lines(&mut drafts, lines, made);
         check_last(&mut drafts, made);
     }
+    drop(drafts);
 }
 
 fn empty_draft(alloc: Global) -> Draft {
@@ -142,7 +143,9 @@ fn add_sample(draft: &mut Draft, words: Words, made: &mut Made) -> bool {
         labels: Items::empty(alloc),
     };
     let is_filled = fill_sample(&mut sample, words, made);
-    is_filled && draft.samples.push(&sample).is_ok()
+    let is_added = is_filled && draft.samples.push(&sample).is_ok();
+    drop(sample);
+    is_added
 }
 
 fn fill_sample(sample: &mut Sample, words: Words, made: &mut Made) -> bool {
@@ -198,7 +201,8 @@ fn add_location(draft: &mut Draft, words: Words, made: &mut Made) -> bool {
         lines: Items::empty(made.alloc()),
         is_folded: words.has("is_folded"),
     };
-    location.lines.push(line).is_ok() && draft.locations.push(location).is_ok()
+    let has_line = location.lines.push(line).is_ok();
+    draft.locations.push(location).is_ok() && has_line
 }
 
 fn add_function(draft: &mut Draft, words: Words, made: &mut Made) -> bool {

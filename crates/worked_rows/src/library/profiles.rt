@@ -74,6 +74,7 @@ fn say_around(profile: &Profile, made: &mut Made) {
         made.fail(Wrong::NoMemory);
     }
     made.add_made(encode_around(alloc, profile.draft(), &samples));
+    drop(samples);
 }
 
 /// What bytes answer, how often, and where.
@@ -95,6 +96,7 @@ fn try_each(words: Words, input: &[u8], made: &mut Made) {
     for one in &seen {
         say_seen(one, made);
     }
+    drop(seen);
 }
 
 fn try_cuts(input: &[u8], seen: &mut Vec<Seen>, made: &mut Made) {

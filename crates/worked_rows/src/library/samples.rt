@@ -39,7 +39,10 @@ fn choice_of(words: Words<'_>) -> ValueChoice<'_> {
 fn say_merged(words: Words, profile: &Profile, made: &mut Made) {
     let (alloc, hashing) = (made.alloc(), hashing_of(words, made));
     match merge_samples(alloc, hashing, profile, choice_of(words)) {
-        Ok(stacks) => made.add_made(write_stacks(alloc, &stacks)),
+        Ok(stacks) => {
+            made.add_made(write_stacks(alloc, &stacks));
+            drop(stacks);
+        }
         Err(fault) => made.refuse(&fault),
     }
 }
@@ -83,7 +86,10 @@ fn say_unfolded(words: Words, profile: &Profile, made: &mut Made) {
         return made.fail(Wrong::Missing);
     }
     match unfold(made.alloc(), profile, sample) {
-        Ok(names) => say_names(names.as_slice(), made),
+        Ok(names) => {
+            say_names(names.as_slice(), made);
+            drop(names);
+        }
         Err(_) => made.fail(Wrong::NoMemory),
     }
 }
@@ -96,14 +102,15 @@ fn say_names(names: &[Name], made: &mut Made) {
 
 fn export_samples(words: Words, profile: &Profile, made: &mut Made) {
     match batch_of(made.alloc(), profile, ValueChoice::All) {
-        Ok(rows) => export_rows(words, &rows, made),
+        Ok(rows) => export_rows(words, rows, made),
         Err(fault) => made.refuse(&fault),
     }
 }
 
-fn export_rows(words: Words, rows: &Batch, made: &mut Made) {
+fn export_rows(words: Words, rows: Batch, made: &mut Made) {
     let units = units_of(words, made);
-    export_units(units.as_slice(), rows, made);
+    export_units(units.as_slice(), &rows, made);
+    drop((units, rows));
 }
 
 fn export_units(units: &[ValueUnit], rows: &Batch, made: &mut Made) {
@@ -135,11 +142,8 @@ fn units_of<'a>(words: Words<'a>, made: &mut Made) -> Vec<ValueUnit<'a>> {
 pub(crate) fn export(words: Words, input: &[u8], made: &mut Made) {
     if words.has("width") {
         let width = width_of(words, made);
-        export_rows(
-            words,
-            &crate::library::rows::batch_of(width, input, made),
-            made,
-        );
+        let rows = crate::library::rows::batch_of(width, input, made);
+        export_rows(words, rows, made);
     } else if words.has("rows") {
         export_folded_rows(words, input, made);
     } else {
@@ -149,7 +153,7 @@ pub(crate) fn export(words: Words, input: &[u8], made: &mut Made) {
 
 fn export_folded_rows(words: Words, input: &[u8], made: &mut Made) {
     match read_folded(made.alloc(), input) {
-        Ok(rows) => export_rows(words, &rows, made),
+        Ok(rows) => export_rows(words, rows, made),
         Err(fault) => made.refuse(&fault),
     }
 }

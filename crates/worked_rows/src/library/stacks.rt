@@ -33,6 +33,7 @@ fn add_written(stacks: &WeightedStacks, by_texts: Result<Vec<u8>, NoMemory>, mad
     };
     made.add(text.as_slice());
     made.compare("CallTree::stack_texts", by_texts, &text);
+    drop(text);
 }
 
 fn agree_on_stacks(tree: &CallTree, value: u32, stacks: &WeightedStacks, made: &mut Made) {

@@ -216,6 +216,7 @@ fn weigh(tree: &CallTree, stacks: &[u8], made: &mut Made) {
     for frames in made.text_of(stacks).lines() {
         if let Some(stack) = stack_of(frames, made) {
             made.show(&tree.self_weight(&stack).values());
+            drop(stack);
         }
     }
 }
@@ -239,4 +240,5 @@ fn add_names(tree: &CallTree, value: u32, made: &mut Made) {
         let (name, flat, cum) = (total.name.text(), total.flat, total.cum);
         made.say(&format_args!("{name} {flat}/{cum}"));
     }
+    drop(totals);
 }

@@ -93,9 +93,9 @@ def places_in(path):
 
 
 def sources():
-    """The sources of the crates, but for that of worked rows."""
+    """The sources of the crates, but for those of worked rows."""
     for path in sorted((ROOT / "crates").glob("*/src/**/*.rt")):
-        if path.relative_to(ROOT / "crates").parts[0] != OF_WORKED_ROWS:
+        if path.relative_to(ROOT / "crates").parts[0] not in OF_WORKED_ROWS:
             yield path
 
 

@@ -281,7 +281,7 @@ def pages():
     """All files with their texts."""
     names = re.findall(r"^(\w+):", (ROOT / "crates.txt").read_text(encoding="utf-8"), re.MULTILINE)
     made, rows = {}, []
-    for name in (name for name in names if name != OF_WORKED_ROWS):
+    for name in (name for name in names if name not in OF_WORKED_ROWS):
         text, calls, edits = page_of(ROOT / "crates" / name)
         if text:
             made[FOLDER / f"{name}.md"] = text

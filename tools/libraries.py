@@ -13,8 +13,8 @@ import sys
 
 ROOT = pathlib.Path(__file__).resolve().parent.parent
 PROCESSORS = len(os.sched_getaffinity(0))
-# The crate that runs worked rows, which no user calls.
-OF_WORKED_ROWS = "worked_rows"
+# The crates that run worked rows, which no user calls.
+OF_WORKED_ROWS = ("library_steps", "worked_rows")
 
 
 @dataclasses.dataclass

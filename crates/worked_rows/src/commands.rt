@@ -1,12 +1,13 @@
 //! The commands by their first words.
 
 use crate::faults::tell_faults;
-use crate::library::{compare_receipts, run_book, run_tree};
 use crate::program::Run;
-use crate::scripts::{Checker, Made, Script, Step, Words, Wrong};
 use crate::store::run_store;
 use crate::streams::Streams;
 use crate::{hashes, live, sources};
+use library_steps::{
+    Checker, Made, Script, Step, Words, Wrong, compare_receipts, run_book, run_tree,
+};
 use std::random::RandomSource;
 use std::sync::Wait;
 use std::thread::Threads;
@@ -148,6 +149,6 @@ fn run_call(checker: &mut Checker, streams: &mut Streams, words: Words) {
         "reader" | "writer" | "flush" | "limit" | "random" => streams.set(words, made),
         "faults" => tell_faults(words, made),
         "same" => compare_receipts(input, made),
-        _ => crate::library::run_command(words, input, made),
+        _ => library_steps::run_command(words, input, made),
     }
 }

@@ -1,7 +1,7 @@
 //! Faults that no input makes: how they are printed, and how the program ends by them.
 
-use crate::scripts::{Made, Words, Wrong};
 use flame_program::{Outcome, Status, ToolFault};
+use library_steps::{Made, Words, Wrong};
 use live_report::LiveFault;
 use profile_store::{
     AuditFault, BatchFault, BookFault, FoldedFault, MakeFault, NameFault, NoMemory, ProfileFault,

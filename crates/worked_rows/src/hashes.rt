@@ -1,6 +1,6 @@
 //! Where hashes begin.
 
-use crate::scripts::{Made, Words, Wrong};
+use library_steps::{Made, Words, Wrong};
 use profile_store::Hashing;
 use std::hash::BuildHasher;
 use std::io;

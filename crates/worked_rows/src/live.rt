@@ -1,7 +1,6 @@
 //! What `live` writes: `live sessions 2 all warm`.
 
-use crate::library::batch_of;
-use crate::scripts::{Made, Words, Wrong};
+use library_steps::{Made, Words, Wrong, batch_of};
 use live_report::{LiveOptions, Progress, live_text};
 use profile_store::{Batch, Hashing};
 use std::sync::atomic::{AtomicU64, Ordering};

@@ -8,17 +8,15 @@
 mod commands;
 mod faults;
 mod hashes;
-mod library;
 mod live;
 mod program;
-mod scripts;
 mod sources;
 mod store;
 mod streams;
 
 use crate::commands::run_script;
-use crate::scripts::Checker;
 use anyhow::Result;
+use library_steps::Checker;
 use std::io::Write;
 use std::process::ExitCode;
 use std::{env, fs, io};

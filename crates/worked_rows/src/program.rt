@@ -1,8 +1,8 @@
 //! The program `flame`: its words, its input, and how it ends.
 
-use crate::scripts::{Made, Names, Words, Wrong};
 use crate::streams::{FakeWriter, Fault, Streams, Unrandom};
 use flame_program::{End, MAX_INPUT, NoProgress, Status, read_input, run, run_process};
+use library_steps::{Made, Names, Words, Wrong};
 use std::alloc::{AllocError, Global};
 use std::env::Args;
 use std::io::ErrorKind;

@@ -1,7 +1,6 @@
 //! A window that sources fill, each in a thread of its own, while a watcher asks.
 
-use crate::library::{add_total, batch_of, is_total, query_of, width_of};
-use crate::scripts::{Made, Words};
+use library_steps::{Made, Words, add_total, batch_of, is_total, query_of, width_of};
 use profile_store::{Answer, Batch, BookFault, Hashing, Query};
 use std::sync::atomic::{AtomicU64, Ordering};
 use std::sync::{Arc, Mutex, MutexGuard, Wait};

@@ -1,7 +1,7 @@
 //! Readers and writers that move few bytes at a time and fail, and a runtime without random bytes.
 
-use crate::scripts::{Made, Words, Wrong};
 use flame_program::MAX_INPUT;
+use library_steps::{Made, Words, Wrong};
 use std::alloc::Global;
 use std::io;
 use std::io::{ErrorKind, Read, Write};

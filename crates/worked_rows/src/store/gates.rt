@@ -1,6 +1,6 @@
 //! A gate that counts the calls of workers, and holds some of them.
 
-use crate::scripts::Made;
+use library_steps::Made;
 use profile_store::Gate;
 use std::sync::atomic::{AtomicU64, Ordering};
 use std::sync::{Mutex, Wait};

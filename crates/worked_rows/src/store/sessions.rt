@@ -1,7 +1,6 @@
 //! What a session of a store does in a step.
 
-use crate::library::{add_answer, add_stacks, batch_of, op_of, query_of};
-use crate::scripts::{Made, Words, Wrong};
+use library_steps::{Made, Words, Wrong, add_answer, add_stacks, batch_of, op_of, query_of};
 use profile_store::{
     Answer, Batch, BookFault, Op, Placed, Receipt, Reply, Session, StoreName, Told, Window,
 };

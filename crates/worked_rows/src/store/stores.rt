@@ -2,10 +2,9 @@
 
 ghost use Rattle.std.specs.Prelude.{◌≡◌};
 
-use crate::library::{run_closed, width_of};
-use crate::scripts::{Checker, Made, Script, Step, Words, Wrong, next_step};
 use crate::store::sessions::{Deed, hold, take, tell_number};
 use crate::store::{walks, windows, workers};
+use library_steps::{Checker, Made, Script, Step, Words, Wrong, next_step, run_closed, width_of};
 use profile_store::{Blank, Hashing, MakeFault, Session, SessionLog, Store, StoreName, Told};
 use std::marker::Brand;
 use std::sync::Wait;

@@ -1,11 +1,10 @@
 //! What sessions do in threads of their own, beside others: `threads 40`. They make changes, ask, and hear of other
 //! changes.
 
-use crate::library::{batch_of, query_of};
-use crate::scripts::{Made, Words};
 use crate::store::gates::{add_one, come};
 use crate::store::sessions::{Deed, run_op};
 use crate::store::stores::Room;
+use library_steps::{Made, Words, batch_of, query_of};
 use profile_store::{Batch, Op, Placed, Query, Session, SessionLog, StoreName};
 use std::alloc::Global;
 use std::sync::atomic::{AtomicU64, Ordering};

@@ -1,10 +1,9 @@
 //! Windows that one session takes in a thread while another adds: `windows 100 main;a 1`.
 
-use crate::library::batch_of;
-use crate::scripts::{Made, Wrong};
 use crate::store::gates::{add_one, come};
 use crate::store::sessions::{Deed, add_often};
 use crate::store::stores::Room;
+use library_steps::{Made, Wrong, batch_of};
 use profile_store::{Batch, Session, StoreName};
 use std::alloc::Global;
 use std::sync::atomic::AtomicU64;

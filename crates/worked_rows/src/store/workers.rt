@@ -1,10 +1,9 @@
 //! Workers of a store, each with a list of operations: `workers`, and a line for each.
 
-use crate::library::{numbers_of, op_of};
-use crate::scripts::{Made, Words, Wrong, first_line};
 use crate::store::gates::Counting;
 use crate::store::sessions::Deed;
 use crate::store::stores::Room;
+use library_steps::{Made, Words, Wrong, first_line, numbers_of, op_of};
 use profile_store::{FinishedWorker, Op, StoreName, Ungated, WorkersFault, run_workers};
 use std::sync::Wait;
 use std::thread;

@@ -1,9 +1,9 @@
 //! Reports: one query over one list of rows, answered in each public way.
 
-use crate::library::batches::Asked;
-use crate::library::queries::{KINDS, add_answer, counts_names, kind_name, query_of, top_answer};
-use crate::library::trees;
+use crate::batches::Asked;
+use crate::queries::{KINDS, add_answer, counts_names, kind_name, query_of, top_answer};
 use crate::scripts::{Made, Wrong};
+use crate::trees;
 use flame_report::{Answer, Query, report_in_order, report_of, report_of_stacks};
 use stack_text::{
     Batch, FrameTotals, Hashing, LineSums, WeightedStacks, folded_totals, kept_totals, merge_lines,

@@ -1,6 +1,6 @@
 //! Lists and texts of messages, which give back what they are made of.
 
-use crate::library::rows::numbers_of;
+use crate::rows::numbers_of;
 use crate::scripts::{Made, Words, Wrong};
 use flame_report::Items;
 use pprof_profile::Text;

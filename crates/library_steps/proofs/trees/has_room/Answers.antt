@@ -1,6 +1,6 @@
 -- What the tree holds of each value keeps the limit.
 use Rattle.std.proofs.Common.{◌<◌, ◌^◌, sym, subst}
-use Rattle.worked_rows.proofs.library.trees.has_room.Goals as goal
+use Rattle.library_steps.proofs.trees.has_room.Goals as goal
 
 pub first_heavy-requires-clause-fits : goal.first_heavy-requires-clause-fits
 first_heavy-requires-clause-fits c =

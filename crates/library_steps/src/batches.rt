@@ -1,7 +1,7 @@
 //! Batches: rows that are read, lent, given away and put together, each in every public way.
 
-use crate::library::reports;
-use crate::library::rows::{add_folded, width_of};
+use crate::reports;
+use crate::rows::{add_folded, width_of};
 use crate::scripts::{Made, Words, Wrong};
 use profile_rows::aggregate_stacks;
 use stack_text::{
@@ -44,7 +44,7 @@ pub(crate) fn run(words: Words, input: &[u8], made: &mut Made) {
 
 fn run_rows(asked: Asked, made: &mut Made) {
     let width = width_of(asked.words, made);
-    let batch = crate::library::rows::batch_of(width, asked.input, made);
+    let batch = crate::rows::batch_of(width, asked.input, made);
     run_batch(asked, &batch, made);
     drop(batch);
 }

@@ -1,6 +1,6 @@
 use Rattle.std.proofs.Common.{◌≡◌, ℕ, List, ◌≤◌, ◌++◌, length}
 use Rattle.pprof_wire.specs.Fields.{PlainField, IsFieldList}
-use Rattle.worked_rows.proofs.library.wire.count_fields.Given as goal
+use Rattle.library_steps.proofs.wire.count_fields.Given as goal
 
 -- the bytes so far are so many fields
 pub record IsCounted (bytes rest : List ℕ) (count : ℕ) : Type 0 where

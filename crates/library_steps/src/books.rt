@@ -2,9 +2,9 @@
 
 ghost use Rattle.std.specs.Prelude.{◌≡◌};
 
-use crate::library::journals::run_closed;
-use crate::library::operations::{op_of, place_of};
-use crate::library::rows::width_of;
+use crate::journals::run_closed;
+use crate::operations::{op_of, place_of};
+use crate::rows::width_of;
 use crate::scripts::{Checker, Made, Scene, Script, Step, Words, Wrong, run_steps};
 use call_tree::CallTree;
 use op_book::{Book, Change, Op, Ready, Receipt};

@@ -1,8 +1,8 @@
 //! Samples of profiles as rows, and rows as profiles.
 
-use crate::library::profiles::{read_profile, say_profile};
-use crate::library::queries::{add_answer, query_of, top_answer};
-use crate::library::rows::{add_values, width_of};
+use crate::profiles::{read_profile, say_profile};
+use crate::queries::{add_answer, query_of, top_answer};
+use crate::rows::{add_values, width_of};
 use crate::scripts::{Made, Words, Wrong};
 use pprof_profile::Profile;
 use stack_text::{
@@ -142,7 +142,7 @@ fn units_of<'a>(words: Words<'a>, made: &mut Made) -> Vec<ValueUnit<'a>> {
 pub(crate) fn export(words: Words, input: &[u8], made: &mut Made) {
     if words.has("width") {
         let width = width_of(words, made);
-        let rows = crate::library::rows::batch_of(width, input, made);
+        let rows = crate::rows::batch_of(width, input, made);
         export_rows(words, rows, made);
     } else if words.has("rows") {
         export_folded_rows(words, input, made);

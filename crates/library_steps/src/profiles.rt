@@ -1,6 +1,6 @@
 //! Profiles as bytes: read and written, cut, and changed bit by bit.
 
-use crate::library::samples;
+use crate::samples;
 use crate::scripts::{Made, Words, Wrong};
 use pprof_profile::{Profile, ProfileFault, WrittenSamples, decode, encode, encode_around};
 

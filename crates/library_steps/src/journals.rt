@@ -1,6 +1,6 @@
 //! What a closed book or store leaves: its journal, the tree of what counts, and audits of logs against it.
 
-use crate::library::operations::{place_of, receipt_of};
+use crate::operations::{place_of, receipt_of};
 use crate::scripts::{Checker, Made, Scene, Script, Words, Wrong, run_steps};
 use flame_report::Items;
 use log_audit::{AuditFault, Run, audit, audit_with};

@@ -1,7 +1,7 @@
 //! The commands by their first words.
 
-use crate::library::{batches, drafts, items, names, profiles, samples, wire};
 use crate::scripts::{Made, Words, Wrong};
+use crate::{batches, drafts, items, names, profiles, samples, wire};
 
 /// Runs a command. That there is none such is kept in `made`, as all that goes wrong.
 pub fn run_command(words: Words, input: &[u8], made: &mut Made) {

@@ -1,7 +1,7 @@
 //! What is asked of a book, a store or a worker, as a script spells it: `add main;a 3`, `reset`, `ask total`.
 
-use crate::library::queries::{kind_name, total_answer};
-use crate::library::rows::{numbers_of, push_row};
+use crate::queries::{kind_name, total_answer};
+use crate::rows::{numbers_of, push_row};
 use crate::scripts::{Made, Words, Wrong};
 use flame_report::Query;
 use op_book::{Op, Receipt, Reply};
@@ -39,7 +39,7 @@ fn row_of(words: Words, made: &mut Made) -> Option<Batch> {
 
 /// `ask total`, `ask top by cum count 3`, `ask flame columns 5`, `ask folded focus main ignore b value 1`.
 pub fn query_of(words: Words, made: &mut Made) -> Option<Arc<Query>> {
-    let query = crate::library::queries::query_of(words, kind_name(words), made);
+    let query = crate::queries::query_of(words, kind_name(words), made);
     let alloc = made.alloc();
     made.done(Arc::new(alloc, query))
 }

@@ -1,7 +1,7 @@
 use Rattle.std.proofs.Common.{ℕ, List, [], ◌∷◌, ◌++◌, ◌∙◌, sym, ap, length, arith, append_assoc, length-append}
 use Rattle.pprof_wire.specs.Fields.{field_of}
 use Rattle.pprof_wire.proofs.ListLaws.{one_field_listed, fields_joined, fault_without_field}
-use Rattle.worked_rows.proofs.library.wire.count_fields.Goals as goal
+use Rattle.library_steps.proofs.wire.count_fields.Goals as goal
 
 pub loop-read-preserved : goal.loop-read-preserved
 loop-read-preserved c =

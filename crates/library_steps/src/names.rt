@@ -1,6 +1,6 @@
 //! Names, stacks and numbers with limits.
 
-use crate::library::rows::{names_of, stack_of, values_of};
+use crate::rows::{names_of, stack_of, values_of};
 use crate::scripts::{Made, Words, Wrong, first_line};
 use flame_report::{Columns, Label};
 use stack_text::{Name, Stack, Weights, Width};

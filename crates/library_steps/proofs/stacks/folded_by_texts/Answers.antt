@@ -3,7 +3,7 @@ use Rattle.std.proofs.Common.{List, sym, subst}
 use Rattle.profile_rows.specs.StackTexts.{AreStackTexts}
 use Rattle.profile_rows.specs.declared.stack_texts.StackText.{StackText}
 use Rattle.call_tree.specs.State.{weights_of}
-use Rattle.worked_rows.proofs.library.stacks.folded_by_texts.Goals as goal
+use Rattle.library_steps.proofs.stacks.folded_by_texts.Goals as goal
 
 pub of_texts-requires : goal.of_texts-requires
 of_texts-requires c =

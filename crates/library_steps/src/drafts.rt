@@ -1,6 +1,6 @@
 //! Drafts of profiles, made by hand: each line adds a message or sets a number, with the fields' names.
 
-use crate::library::profiles::say_profile;
+use crate::profiles::say_profile;
 use crate::scripts::{Made, Words, Wrong};
 use flame_report::Items;
 use pprof_profile::{

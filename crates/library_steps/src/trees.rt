@@ -3,10 +3,10 @@
 ghost use Rattle.std.specs.Prelude.{◌≡◌, IfSome, IsTrue};
 ghost use Rattle.call_tree.specs.Plans.{HasRoomFor};
 
-use crate::library::reports::Given;
-use crate::library::rows::{stack_of, width_of};
-use crate::library::stacks::add_stacks;
+use crate::reports::Given;
+use crate::rows::{stack_of, width_of};
 use crate::scripts::{Checker, Made, Scene, Script, Step, Words, Wrong, run_steps};
+use crate::stacks::add_stacks;
 use call_tree::{CallTree, Grower, Plan};
 use flame_report::report;
 use stack_text::{Batch, Hashing, NoMemory, first_heavy, read_folded};
@@ -130,7 +130,7 @@ impl Growing {
     fn grow(&mut self, words: Words, input: &[u8], made: &mut Made) {
         let width = self.grower.tree().width();
         if width.get() > 1 {
-            let rows = crate::library::rows::batch_of(width, input, made);
+            let rows = crate::rows::batch_of(width, input, made);
             return grow(&mut self.grower, words, rows, made);
         }
         match read_folded(made.alloc(), input) {
@@ -208,7 +208,7 @@ fn credit(grower: &mut Grower, plan: Plan, words: Words, made: &mut Made)
 }
 
 fn add_total(tree: &CallTree, made: &mut Made) {
-    crate::library::rows::add_total(&tree.total(), made);
+    crate::rows::add_total(&tree.total(), made);
 }
 
 /// `weigh`, `weigh of share`: what each stack weighs alone.
